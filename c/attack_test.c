@@ -166,9 +166,64 @@ static void test_behind_a_failure(void) {
     }
 }
 
+/* ---- slots of a page that is being written ---- */
+
+static warm first_user, second_user;
+static warm_slot old_slot;
+static int uses;
+
+/* Nobody has pinned the page. */
+static void must_be_stale(void) {
+    const uint8_t *bytes;
+    uint8_t *bytes_mut, byte;
+    MUST(warm_read(&second_user, old_slot, 0, &byte, 1) == WARM_STALE_SLOT);
+    MUST(warm_write(&second_user, old_slot, 0, "w", 1) == WARM_STALE_SLOT);
+    MUST(warm_bytes(&second_user, old_slot, &bytes) == WARM_STALE_SLOT);
+    MUST(warm_bytes_mut(&second_user, old_slot, &bytes_mut) == WARM_STALE_SLOT);
+    MUST(warm_mark_dirty(&second_user, old_slot) == WARM_STALE_SLOT);
+    MUST(warm_unpin(&second_user, old_slot) == WARM_STALE_SLOT);
+}
+
+static unsigned pins_of_first_frame(void) { return node_of(&first_user, 0)->at[0].pins; }
+
+/* The pin that the node has while a page is written is no caller's, also beside a caller's own: one
+ * in the node, and then a hold. */
+static void use_slots(int fd, off_t at) {
+    if (fd != 10 || at != 0 || uses++ > 0) return;
+    must_be_stale();
+    for (unsigned pins = 2; pins > 0; pins--) {
+        uint8_t byte;
+        warm_slot own = pin(&second_user, 0);
+        MUST(own.generation == old_slot.generation && pins_of_first_frame() == pins);
+        OK(warm_read(&second_user, old_slot, 0, &byte, 1));
+        OK(warm_write(&second_user, own, 0, pins == 2 ? "v" : "w", 1));
+        MUST(byte == (pins == 2 ? 'd' : 'v') && pins_of_first_frame() == pins);
+        OK(warm_unpin(&second_user, own));
+        must_be_stale();
+    }
+    MUST(pins_of_first_frame() == 1);
+}
+
+static void test_slots_beside_a_write(void) {
+    open_two(&first_user, &second_user, 2);
+    old_slot = pin(&first_user, 0);
+    OK(warm_write(&first_user, old_slot, 0, "d", 1));
+    OK(warm_unpin(&first_user, old_slot));
+    warm_slot other = pin(&second_user, 1);
+    must_be_stale();
+    uses = 0;
+    at_write = use_slots;
+    OK(warm_write_back_all(&first_user));
+    at_write = NULL;
+    MUST(uses == 1 && pins_of_first_frame() == 0);
+    OK(warm_unpin(&second_user, other));
+    MUST(is_dirty(&first_user, 0) && read_from(&first_user, page_at(0)) == 'w');
+    close_two(&first_user, &second_user);
+}
+
 /* ---- a descriptor that is another's ---- */
 
-static warm first_user, second_user, next_user;
+static warm next_user;
 
 /* The device is replaced, and a replica is opened that has the old one's descriptor. */
 static void reuse_descriptor(void) {
@@ -202,6 +257,7 @@ int main(void) {
     test_later_hold();
     test_reading_past_stuck();
     test_behind_a_failure();
+    test_slots_beside_a_write();
     test_reused_descriptor();
     puts("attack_test: as expected");
     return 0;

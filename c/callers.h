@@ -1,7 +1,7 @@
 /*
- * callers.h: for reads_test.c, stale_reads_test.c, waits_test.c and writes_test.c, over
- * fake_library.h: threads that make one call each, by handles of their own, and reads and writes
- * that a test stops. A test that hangs is ended by an alarm.
+ * callers.h: for busy_test.c, reads_test.c, stale_reads_test.c, waits_test.c and writes_test.c,
+ * over fake_library.h: threads that make one call each, by handles of their own, and reads and
+ * writes that a test stops. A test that hangs is ended by an alarm.
  */
 #ifndef CALLERS_H
 #define CALLERS_H
@@ -40,12 +40,13 @@ static warm first;
 static caller callers[MOST];
 static const warm_device in_place = {.pages = 100, .fd = 20};
 
-/* Makes the page dirty, which has the byte then, or the one before. */
+/* Makes the page dirty, which has the byte then, or the one before; or it is refused. */
 static inline int change(warm *by, warm_page page, bool writes) {
     warm_slot slot;
     OK(warm_pin(by, page, &slot));
-    OK(writes ? warm_write(by, slot, 0, "n", 1) : warm_mark_dirty(by, slot));
-    return warm_unpin(by, slot);
+    int status = writes ? warm_write(by, slot, 0, "n", 1) : warm_mark_dirty(by, slot);
+    OK(warm_unpin(by, slot));
+    return status;
 }
 
 static inline int make_call(caller *its) {
@@ -96,6 +97,15 @@ static inline int end(int number) {
 /* What a call waits for it may have been about to wait for. */
 static inline void until_waiting(int count) {
     while (atomic_load(&waiting_now) < count) sched_yield();
+}
+
+/* Wakes all who wait in the first shard, and a call that is about to wait: it has the lock until it
+ * does. */
+static inline void wake_all(void) {
+    shard *in = ((opened *)first.at)->shards;
+    MUST(pthread_mutex_lock(&in->lock) == 0);
+    MUST(pthread_cond_broadcast(&in->call_over) == 0);
+    MUST(pthread_mutex_unlock(&in->lock) == 0);
 }
 
 /* No call is over that was not before, though it had the time. */

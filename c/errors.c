@@ -57,6 +57,7 @@ const char *warm_strerror(int status) {
         SAYS(WARM_BAD_DEVICE, "there are too many devices, or one is too large or has bad ops")
         SAYS(WARM_DIRTY, "pages are dirty, and would be lost")
         SAYS(WARM_SKIPPED, "before_write has skipped pages, and nothing has failed")
+        SAYS(WARM_BUSY, "the call has waited for others as long as it may")
         default: return "there is no such status";
     }
 }

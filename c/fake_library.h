@@ -48,9 +48,13 @@ static void must(bool holds, const char *what, int line) {
 #undef pthread_mutex_lock /* schedules.h has its own */
 #undef pthread_mutex_unlock
 #undef pthread_cond_wait
+#undef pthread_cond_timedwait
 #define pthread_mutex_lock test_lock
 #define pthread_mutex_unlock test_unlock
 #define pthread_cond_wait test_cond_wait
+#define pthread_cond_timedwait test_cond_timedwait
+#define clock_gettime test_clock
+#include "waits.c"
 #include "reads.c"
 #include "writes.c"
 #include "holds.c"
@@ -62,6 +66,8 @@ static void must(bool holds, const char *what, int line) {
 #undef pthread_mutex_lock
 #undef pthread_mutex_unlock
 #undef pthread_cond_wait
+#undef pthread_cond_timedwait
+#undef clock_gettime
 #undef pthread_cond_init
 #undef pthread_cond_destroy
 #undef malloc
@@ -194,7 +200,8 @@ static inline void no_pins(warm *handle) {
             const fake_frame *frame = &node_of(handle, number)->at[at];
             MUST(frame->pins == 0 && (in->may_be_dirty || !frame->is_dirty));
         }
-        MUST(in->table.passed_count == 0 && in->writes == NULL && in->leaving == 0);
+        MUST(in->table.passed_count == 0 && in->writes == NULL &&
+             in->leaving == 0 && in->wanting == 0);
     }
 }
 

@@ -425,20 +425,16 @@ int node_history_length(node *of, size_t *length) {
     return fake_out(of, WARM_OK);
 }
 
-int node_list(node *of, node_page *pages, size_t room, size_t *count) {
-    fake *its = fake_in(of);
-    if (!fake_memory()) return fake_out(of, WARM_MEMORY);
-    *count = its->known < room ? its->known : room;
+static int fake_list(size_t known, node_page *pages, size_t room, size_t *count) {
+    if (!fake_memory()) return WARM_MEMORY;
+    *count = known < room ? known : room;
     for (size_t at = 0; at < *count; at++)
         pages[at] = (node_page){.no = at + 1, .dev = (uint16_t)(at + 7)};
-    return fake_out(of, WARM_OK);
+    return WARM_OK;
 }
 
-int node_gather(node *into, node *from) {
-    if (!fake_memory()) return WARM_MEMORY;
-    fake_in(into)->known += fake_in(from)->known;
-    fake_out(from, WARM_OK);
-    return fake_out(into, WARM_OK);
+int node_list(node *of, node_page *pages, size_t room, size_t *count) {
+    return fake_out(of, fake_list(fake_in(of)->known, pages, room, count));
 }
 
 /* A dump is two bytes for each reference that is known, in two pieces. It goes to a descriptor of 0
@@ -452,14 +448,13 @@ static bool fake_put_dump(int number, size_t known) {
     return sync_once(device_synced_as(number)) == 0;
 }
 
-int node_save(node *of, int number) {
+static int fake_save(size_t known, int number) {
     MUST(held == 0); /* nobody waits for a file */
-    fake *its = fake_in(of);
-    bool has_memory = fake_memory();
-    return fake_out(of, !has_memory                         ? WARM_MEMORY
-                        : fake_put_dump(number, its->known) ? WARM_OK
-                                                            : WARM_DUMP_NOT_WRITTEN);
+    if (!fake_memory()) return WARM_MEMORY;
+    return fake_put_dump(number, known) ? WARM_OK : WARM_DUMP_NOT_WRITTEN;
 }
+
+int node_save(node *of, int number) { return fake_out(of, fake_save(fake_in(of)->known, number)); }
 
 /* A dump has as many references as its length says; of a device with its own calls its last byte is
  * read. */
@@ -469,14 +464,62 @@ static bool fake_get_dump(int number, uint64_t length) {
     return !is_made_up(number) || device_read(number, &byte, 1, (off_t)length - 1) == 1;
 }
 
-int node_load(node *of, int number, uint64_t length) {
+static int fake_load(size_t *known, int number, uint64_t length) {
     MUST(held == 0);
-    fake *its = fake_in(of);
-    int status = !fake_memory()                  ? WARM_MEMORY
-                 : fake_get_dump(number, length) ? WARM_OK
-                                                 : WARM_DUMP_NOT_READ;
-    if (status == WARM_OK) its->known += length;
-    return fake_out(of, status);
+    if (!fake_memory()) return WARM_MEMORY;
+    if (!fake_get_dump(number, length)) return WARM_DUMP_NOT_READ;
+    *known += length;
+    return WARM_OK;
+}
+
+int node_load(node *of, int number, uint64_t length) {
+    return fake_out(of, fake_load(&fake_in(of)->known, number, length));
+}
+
+/* A history alone is how many references it took in. */
+static size_t *fake_known(peer *of) {
+    MUST(of->is_open);
+    return of->at;
+}
+
+int peer_open(peer *of, uint16_t replica) {
+    MUST(!of->is_open && replica > 0 && replica <= 64);
+    size_t *made = malloc(sizeof(size_t));
+    if (made == NULL) return WARM_MEMORY;
+    *made = 0;
+    *of = (peer){.is_open = true, .at = made};
+    return WARM_OK;
+}
+
+void peer_close(peer *of) {
+    if (of->is_open) free(of->at);
+    *of = (peer){0};
+}
+
+int peer_list(peer *of, node_page *pages, size_t room, size_t *count) {
+    return fake_list(*fake_known(of), pages, room, count);
+}
+
+int peer_save(peer *of, int number) { return fake_save(*fake_known(of), number); }
+
+int peer_load(peer *of, int number, uint64_t length) {
+    return fake_load(fake_known(of), number, length);
+}
+
+int peer_gather(peer *into, node *from) {
+    fake *its = fake_in(from);
+    bool has_memory = fake_memory();
+    if (has_memory) *fake_known(into) += its->known;
+    return fake_out(from, has_memory ? WARM_OK : WARM_MEMORY);
+}
+
+/* Each shard has as many of its references as any other. */
+int node_join_part(node *into, size_t shards, size_t number, peer *from) {
+    fake *its = fake_in(into);
+    MUST(number < shards);
+    if (!fake_memory()) return fake_out(into, WARM_MEMORY);
+    its->known += *fake_known(from) / shards;
+    return fake_out(into, WARM_OK);
 }
 
 int node_digests(node *of, size_t shards, size_t number, node_table *table, uint64_t *horizon) {

@@ -17,6 +17,7 @@
 #include <stdatomic.h>
 #include <stdlib.h>
 #include <string.h>
+#include <time.h>
 
 /* How many more allocations and new locks succeed, whether those after the one that fails do, how
  * many there are, and what a sync does. */
@@ -163,6 +164,8 @@ static int test_unlock(pthread_mutex_t *lock) {
 }
 
 static int test_cond_init(pthread_cond_t *made, const pthread_condattr_t *kind) {
+    clockid_t clock;
+    MUST(pthread_condattr_getclock(kind, &clock) == 0 && clock == CLOCK_MONOTONIC);
     if (!is_granted()) return EAGAIN;
     __atomic_add_fetch(&locks_there, 1, __ATOMIC_RELAXED);
     return pthread_cond_init(made, kind);
@@ -178,11 +181,12 @@ static int test_cond_destroy(pthread_cond_t *made) {
 static atomic_int waiting_now, waits;
 static void (*at_wake)(void);
 
-static int test_cond_wait(pthread_cond_t *of, pthread_mutex_t *lock) {
+static int wait_until(pthread_cond_t *of, pthread_mutex_t *lock, const struct timespec *until) {
     held--;
     waiting_now++;
     waits++;
-    int status = pthread_cond_wait(of, lock);
+    int status = until == NULL ? pthread_cond_wait(of, lock)
+                               : pthread_cond_timedwait(of, lock, until);
     waiting_now--;
     if (at_wake != NULL) {
         pthread_mutex_unlock(lock);
@@ -191,6 +195,30 @@ static int test_cond_wait(pthread_cond_t *of, pthread_mutex_t *lock) {
     }
     held++;
     return status;
+}
+
+static int test_cond_wait(pthread_cond_t *of, pthread_mutex_t *lock) {
+    return wait_until(of, lock, NULL);
+}
+
+/* What the clock shows; until which nanosecond the last one waits that has a limit; and whether
+ * that time is over: it is once a test says so, and wakes who waits. */
+static struct timespec now;
+static atomic_llong waits_until;
+static atomic_bool is_time_over;
+
+static int test_clock(clockid_t clock, struct timespec *shown) {
+    MUST(clock == CLOCK_MONOTONIC);
+    *shown = now;
+    return 0;
+}
+
+static int test_cond_timedwait(
+    pthread_cond_t *of, pthread_mutex_t *lock, const struct timespec *until) {
+    static const struct timespec never = {.tv_sec = INT64_C(1) << 40};
+    waits_until = until->tv_sec * 1000000000LL + until->tv_nsec;
+    int status = atomic_load(&is_time_over) ? ETIMEDOUT : wait_until(of, lock, &never);
+    return atomic_load(&is_time_over) ? ETIMEDOUT : status;
 }
 
 static int test_fsync(int fd) {

@@ -21,8 +21,8 @@
  * reads them after it found the record open (acquire). The fields of a record are stored by release
  * and read by acquire, too: who reads one of the next page has then seen that the record was closed
  * before, and its second look finds another state. States have 32 bits: a pin that sleeps between
- * its two looks while its record is given to exactly 2^31 other pages would take the last one for
- * its own.
+ * its two looks while its record is given to other pages, or is found free by who forgets pages,
+ * exactly 2^31 times would take the last page for its own.
  */
 #ifndef HOLDS_H
 #define HOLDS_H

@@ -1,7 +1,7 @@
 /*
  * layouts.h: what the types of nodes.h are in the proved part (crates/warm_c/src/values.rt,
- * counters.rt, handle.rt and frame_parts.rt), and those of include/warm.h in every program that was
- * built with it: a change here needs a new SONAME. Not installed.
+ * counters.rt, handle.rt, peer_handle.rt and frame_parts.rt), and those of include/warm.h in every
+ * program that was built with it: a change here needs a new SONAME. Not installed.
  */
 #ifndef LAYOUTS_H
 #define LAYOUTS_H
@@ -17,6 +17,9 @@ _Static_assert(sizeof(size_t) == 8 && sizeof(bool) == 1, "lengths have 64 bits, 
 SIZE_IS(node, 16);
 FIELD_IS(node, is_open, 0, 1);
 FIELD_IS(node, at, 8, 8);
+SIZE_IS(peer, 16);
+FIELD_IS(peer, is_open, 0, 1);
+FIELD_IS(peer, at, 8, 8);
 SIZE_IS(node_page, 16);
 FIELD_IS(node_page, no, 0, 8);
 FIELD_IS(node_page, dev, 8, 2);

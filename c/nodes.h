@@ -172,11 +172,6 @@ int node_differing(const node_table *table, const uint8_t *frame, size_t length,
 int node_want_frame(uint16_t replica, uint64_t horizon, uint64_t buckets, uint8_t *frame,
     size_t room, size_t *length);
 
-/* Joins the whole history of one node to that of another, at the later horizon of both. The one
- * that it is taken from is as it was. All or nothing.
- * Refused: WARM_CLOSED where one of them is closed; WARM_MEMORY. */
-int node_gather(node *into, node *from);
-
 /* Whether node_forget would forget these pages, or what it would be refused with. Nothing
  * changes. */
 int node_may_forget(node *handle, uint16_t dev, uint64_t from);
@@ -185,5 +180,33 @@ int node_may_forget(node *handle, uint16_t dev, uint64_t from);
  * WARM_SAME_FILE. Nothing changes.
  * Refused: these; WARM_MEMORY. */
 int node_may_replace(node *handle, uint16_t dev, const node_device *device);
+
+/*
+ * Histories alone, which have no frame and no device. Where there is a node_NAME, peer_NAME does
+ * the same of a history alone.
+ */
+
+/* A handle of a history alone. All zeros is a closed one. It does not move while it is open, and
+ * stays on its thread. */
+typedef struct peer {
+    bool is_open;
+    void *at;
+} peer;
+
+int peer_open(peer *handle, uint16_t replica);
+void peer_close(peer *handle);
+int peer_list(peer *handle, node_page *pages, size_t room, size_t *count);
+int peer_save(peer *handle, int fd);
+int peer_load(peer *handle, int fd, uint64_t length);
+
+/* Joins the history of a node to a history alone, at the later horizon of both. The node is as it
+ * was. All or nothing.
+ * Refused: WARM_CLOSED where one of them is closed; WARM_MEMORY. */
+int peer_gather(peer *into, node *from);
+
+/* Joins what a history alone has of pages of the shard to the history of the shard's node, at the
+ * later horizon of both. The history alone is as it was. All or nothing.
+ * Refused: WARM_CLOSED where one of them is closed; WARM_MEMORY. */
+int node_join_part(node *into, size_t shards, size_t shard, peer *from);
 
 #endif

@@ -66,9 +66,19 @@ static void destroy_locks(replica *of, size_t count) {
     }
 }
 
+/* By a clock that nobody sets. */
+static bool make_condition(pthread_cond_t *made) {
+    pthread_condattr_t kind;
+    if (pthread_condattr_init(&kind) != 0) return false;
+    bool is_made = pthread_condattr_setclock(&kind, CLOCK_MONOTONIC) == 0 &&
+                   pthread_cond_init(made, &kind) == 0;
+    pthread_condattr_destroy(&kind);
+    return is_made;
+}
+
 static bool make_lock(shard *of) {
     if (pthread_mutex_init(&of->lock, NULL) != 0) return false;
-    if (pthread_cond_init(&of->call_over, NULL) == 0) return true;
+    if (make_condition(&of->call_over)) return true;
     pthread_mutex_destroy(&of->lock);
     return false;
 }
@@ -186,12 +196,15 @@ static void free_opened(opened *its) {
 /* A handle of the replica, or NULL. */
 static opened *new_opened(replica *of) {
     void *block;
-    opened *made = in_lines(sizeof(opened) + bytes_of_devices(of), &block);
+    size_t bits = bytes_of_devices(of) + bytes_of_frames(of);
+    opened *made = in_lines(sizeof(opened) + bits, &block);
     if (made == NULL) return NULL;
     made->of = of;
     made->shards = of->shards;
     made->count = of->count;
+    made->longest_wait = UINT64_MAX;
     made->block = block;
+    made->passed = made->unwritten + bytes_of_devices(of);
     if (take_buffers(made) && take_holds(made)) return made;
     free_opened(made);
     return NULL;
@@ -224,6 +237,13 @@ int warm_attach(warm *handle, warm *attached) {
     attached->at = new_opened(its->of);
     if (attached->at == NULL) return WARM_MEMORY;
     atomic_fetch_add_explicit(&its->of->handles, 1, memory_order_acq_rel);
+    return WARM_OK;
+}
+
+int warm_limit_waits(warm *handle, uint64_t milliseconds) {
+    opened *its = handle->at;
+    if (its == NULL) return WARM_CLOSED;
+    its->longest_wait = milliseconds;
     return WARM_OK;
 }
 

@@ -14,11 +14,14 @@
 static int drawn_lock(pthread_mutex_t *lock);
 static int drawn_unlock(pthread_mutex_t *lock);
 static int drawn_wait(pthread_cond_t *condition, pthread_mutex_t *lock);
+static int drawn_timedwait(
+    pthread_cond_t *condition, pthread_mutex_t *lock, const struct timespec *until);
 static int drawn_broadcast(pthread_cond_t *condition);
 static void may_switch(void);
 #define pthread_mutex_lock drawn_lock
 #define pthread_mutex_unlock drawn_unlock
 #define pthread_cond_wait drawn_wait
+#define pthread_cond_timedwait drawn_timedwait
 #define pthread_cond_broadcast drawn_broadcast
 #define HOLDS_PAUSE may_switch
 #define HOLDS_PAUSE_IN_SHARD may_switch
@@ -37,7 +40,7 @@ typedef struct thread {
     ucontext_t at;
     void *stack;
     const void *awaits; /* a lock, a condition or a latch; NULL where it can go on */
-    bool is_over;
+    bool is_over, has_limit; /* has_limit: its time may be over while it waits */
     thread_state state;
 } thread;
 
@@ -69,11 +72,17 @@ static void set_state(const thread_state *to) {
     made_before = to->made_before;
 }
 
+static void end_wait(thread *it) {
+    it->has_limit = false;
+    it->awaits = NULL;
+}
+
 static int ready_thread(void) {
     int ready[THREADS], count = 0;
     for (int at = 0; at < thread_count; at++) {
         thread *it = &threads[at];
         if (wakes_for_nothing && drawn(50) == 0) it->awaits = NULL;
+        if (it->has_limit && drawn(30) == 0) end_wait(it);
         if (!it->is_over && it->awaits == NULL) ready[count++] = at;
     }
     return count == 0 ? -1 : ready[drawn((uint64_t)count)];
@@ -137,6 +146,17 @@ static int drawn_wait(pthread_cond_t *condition, pthread_mutex_t *lock) {
     return 0;
 }
 
+static int drawn_timedwait(
+    pthread_cond_t *condition, pthread_mutex_t *lock, const struct timespec *until) {
+    thread *its = &threads[running];
+    (void)until;
+    its->has_limit = true;
+    drawn_wait(condition, lock);
+    bool is_over = !its->has_limit;
+    its->has_limit = false;
+    return is_over ? ETIMEDOUT : 0;
+}
+
 static int drawn_broadcast(pthread_cond_t *condition) {
     wake(condition);
     return 0;
@@ -149,7 +169,7 @@ __attribute__((noinline)) static void make_thread(thread *it, void (*body)(void)
     it->at.uc_stack.ss_size = STACK;
     makecontext(&it->at, body, 0);
     it->awaits = NULL;
-    it->is_over = false;
+    it->is_over = it->has_limit = false;
     it->state = (thread_state){0};
 }
 

@@ -35,7 +35,7 @@ typedef struct storage {
 static page pages[DISKS][PAGES];
 static storage disks[DISKS + 1];
 static int replaced_by; /* the storage of the last device */
-static bool fails, fails_syncs, is_replacing;
+static bool fails, fails_syncs, is_replacing, has_limits;
 static long written;
 static warm opener, attached[THREADS];
 
@@ -217,8 +217,16 @@ static page *page_of_kept(const kept *its) { return &pages[its->page.dev][its->p
 
 static bool may_be_refused(int status) {
     return status == WARM_OK || status == WARM_ALL_PINNED || status == WARM_EVICT_FAULT ||
-           status == WARM_READ_FAULT;
+           status == WARM_READ_FAULT || (status == WARM_BUSY && has_limits);
 }
+
+/* A call that changes a page that the thread has pinned is refused where its time is over alone:
+ * nothing has changed then. */
+#define UNTIL_OK(call)                                                  \
+    for (int status = WARM_BUSY; status != WARM_OK;) {                  \
+        status = (call);                                                \
+        MUST(status == WARM_OK || (status == WARM_BUSY && has_limits)); \
+    }
 
 /* A pinned page has the bytes of its last change, or of the device that it is on. */
 static void look_at_bytes(warm *by, const kept *its) {
@@ -241,14 +249,14 @@ static void write_in_place(page *of, uint8_t *bytes) {
 static void fill_with_zeros(warm *by, const kept *its, page *of) {
     warm_slot slot;
     of->zeros = ++of->begun;
-    OK(warm_pin_zeroed(by, its->page, &slot));
+    UNTIL_OK(warm_pin_zeroed(by, its->page, &slot));
     OK(warm_unpin(by, slot));
 }
 
 static void write_byte(warm *by, const kept *its, page *of) {
     int version = ++of->begun;
     uint8_t byte = byte_of(of, version);
-    OK(warm_write(by, its->slot, 0, &byte, 1));
+    UNTIL_OK(warm_write(by, its->slot, 0, &byte, 1));
 }
 
 /* Changes a page under its latch. By a pointer alone where before_write tries that latch. */
@@ -257,16 +265,16 @@ static void change_page(warm *by, const kept *its) {
     uint64_t way = drawn(its->page.dev == LATCHED ? 5 : 3);
     uint8_t *bytes;
     if (its->page.dev == REPLACED) {
-        OK(warm_mark_dirty(by, its->slot));
+        UNTIL_OK(warm_mark_dirty(by, its->slot));
         return;
     }
-    if (way == 4) OK(warm_bytes_mut(by, its->slot, &bytes));
+    if (way == 4) UNTIL_OK(warm_bytes_mut(by, its->slot, &bytes));
     take_latch(of);
     if (way < 2 || (way == 2 && of->zeros != 0)) write_byte(by, its, of);
     else if (way == 2) fill_with_zeros(by, its, of);
-    if (way == 3) OK(warm_bytes_mut(by, its->slot, &bytes));
+    if (way == 3) UNTIL_OK(warm_bytes_mut(by, its->slot, &bytes));
     if (way > 2) write_in_place(of, bytes);
-    if (way == 4) OK(warm_mark_dirty(by, its->slot));
+    if (way == 4) UNTIL_OK(warm_mark_dirty(by, its->slot));
     of->done = of->begun;
     release_latch(of);
 }
@@ -393,10 +401,15 @@ static void end_user(user *its) {
     if (its->handle != &opener) OK(warm_close(its->handle));
 }
 
+static void attach_one(int at) {
+    OK(warm_attach(&opener, &attached[at]));
+    if (has_limits) OK(warm_limit_waits(&attached[at], (uint64_t)at % 3));
+}
+
 static void attach_some(void) {
     for (int at = 1; at < thread_count; at++) {
         if (!wants_handle[at] || drawn(2) == 0) continue;
-        OK(warm_attach(&opener, &attached[at]));
+        attach_one(at);
         wants_handle[at] = false;
     }
 }
@@ -425,6 +438,7 @@ static void draw_schedule(void) {
     wakes_for_nothing = seed % 4 == 1;
     is_lonely = seed % 5 == 0;
     is_hot = seed % 7 == 3;
+    has_limits = seed % 6 == 4;
     is_replacing = false;
     written = 0;
     memset(pages, 0, sizeof pages);
@@ -488,7 +502,7 @@ static void play_schedule(void) {
     int count = 2 + (int)drawn(THREADS - 1);
     for (int at = 0; at < count; at++) {
         wants_handle[at] = is_lonely && at > 0;
-        if (!is_lonely) OK(warm_attach(&opener, &attached[at]));
+        if (!is_lonely) attach_one(at);
     }
     run_threads(count, play_thread);
     for (int at = 0; at < count; at++) OK(warm_close(&attached[at]));

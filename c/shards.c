@@ -85,7 +85,8 @@ typedef struct load {
     bool is_for_node;     /* the page that leaves is written by the node, if it is dirty */
     unsigned tries;       /* how many pages were written to leave for it */
     uint64_t failed;      /* how many calls of devices did, or were skipped, so far */
-    const reading *begun; /* where the shard is locked, and the page in no frame */
+    patience left;
+    reading *begun;       /* where the shard is locked, and the page in no frame */
     node_slot slot;       /* of a pin that was made */
     const uint8_t *bytes; /* of such a pin, but of LOAD_PINS_ZEROED */
 } load;
@@ -131,14 +132,21 @@ static bool has_room(opened *its, shard *in) {
 }
 
 /* The node's pins of pages that are being written, which no caller has: where it is asked what it
- * would say without them, they are taken back before, and made again after that. */
+ * would say without one, or all of them, they are taken back before, and made again after that. */
+static void unpin_write(shard *in, const writing *at) {
+    if (at != NULL) node_unpin(&in->node, at->slot);
+}
+
+static void pin_write(shard *in, writing *at) {
+    if (at != NULL) pin_in_node(in, at->page, &at->slot);
+}
+
 static void unpin_written(shard *in) {
-    for (writing *at = in->writes; at != NULL; at = at->next) node_unpin(&in->node, at->slot);
+    for (writing *at = in->writes; at != NULL; at = at->next) unpin_write(in, at);
 }
 
 static void pin_written(shard *in) {
-    for (writing *at = in->writes; at != NULL; at = at->next)
-        pin_in_node(in, at->page, &at->slot);
+    for (writing *at = in->writes; at != NULL; at = at->next) pin_write(in, at);
 }
 
 /* Whether a page would leave if none were being written. */
@@ -198,9 +206,9 @@ static int load_after_writes(opened *its, shard *in, load *it, stuck_pages *all,
         unpin_passed(in);
         if (waits && !is_victim_written(its, in)) return status;
         unpin_stuck(in, all);
-        if (waits) wait_for_any_write(in);
-        else status = write_victim(its, in, it, all, in->table.victim);
-        if (status == WARM_EVICT_FAULT) return status;
+        status = waits ? wait_for_any_write(its, in, &it->left)
+                       : write_victim(its, in, it, all, in->table.victim);
+        if (status == WARM_EVICT_FAULT || status == WARM_BUSY) return status;
         if (it->begun->is_stale) return READ_AGAIN;
         pin_stuck(in, all);
         status = load_once(its, in, it);
@@ -266,8 +274,9 @@ static int pin_absent(opened *its, shard *in, load *it) {
 
 static int pin_resident(opened *its, shard *in, load *it) {
     writing *changed = it->kind == LOAD_PINS_ZEROED ? write_of_page(in, it->page) : NULL;
-    if (!may_change(in, changed)) return READ_AGAIN;
-    int status = ask_node(its, in, it);
+    int status = may_change(its, in, changed, &it->left);
+    if (status != WARM_OK) return status;
+    status = ask_node(its, in, it);
     if (status == WARM_OK) note_change(changed);
     if (status == WARM_OK && it->kind == LOAD_PINS)
         put_record(its, in, it->page, it->slot, it->bytes);
@@ -278,14 +287,13 @@ static int pin_resident(opened *its, shard *in, load *it) {
 
 /* What the node would refuse before it needs the page's bytes. Where each page that could leave is
  * being written, waits for one of them. */
-static int may_load(opened *its, shard *in, const load *it) {
+static int may_load(opened *its, shard *in, load *it) {
     const replica *of = its->of;
     if (it->page.dev >= of->device_count) return WARM_NO_DEVICE;
     if (it->page.no >= of->devices[it->page.dev].pages) return WARM_NO_PAGE;
     if (it->kind == LOAD_PINS_ZEROED || has_room(its, in)) return WARM_OK;
     if (!is_victim_written(its, in)) return WARM_ALL_PINNED;
-    wait_for_any_write(in);
-    return READ_AGAIN;
+    return wait_for_any_write(its, in, &it->left);
 }
 
 static int read_and_pin(opened *its, shard *in, load *it) {
@@ -309,7 +317,7 @@ __attribute__((noinline)) static int pin_listed(opened *its, shard *in, load *it
     status = it->kind == LOAD_PINS ? read_and_pin(its, in, it) : pin_absent(its, in, it);
     it->begun = NULL;
     end_read(in, &begun);
-    return status;
+    return status == READ_AGAIN ? look_again(its, &it->left) : status;
 }
 
 /* The same, without the pin: the node has it for a moment, and has counted a miss. */
@@ -320,22 +328,25 @@ static int load_read(opened *its, shard *in, load *it) {
     return node_unpin(&in->node, it->slot);
 }
 
-/* Whether a page is in a frame; else nobody reads it. */
-static bool is_in_frame(shard *in, node_page page) {
-    bool is_in;
-    do node_resident(&in->node, page, &is_in);
-    while (!is_in && wait_for_read(in, page));
-    return is_in;
+/* Looks whether a page is in a frame. WARM_OK where it is, or nobody reads it; READ_AGAIN, or
+ * WARM_BUSY. */
+static int look_for(opened *its, shard *in, load *it) {
+    node_resident(&in->node, it->page, &it->is_hit);
+    return it->is_hit ? WARM_OK : wait_for_read(its, in, it->page, &it->left);
 }
 
-/* Pins a page in the node of a shard. Who is alone lets the node read it. */
+/* Who is alone lets the node read a page that is in no frame. */
+static int pin_found(opened *its, shard *in, load *it) {
+    if (it->is_hit) return pin_resident(its, in, it);
+    return it->is_locked ? pin_listed(its, in, it) : pin_absent(its, in, it);
+}
+
+/* Pins a page in the node of a shard. */
 static int pin_in_node_of(opened *its, shard *in, load *it) {
     int status;
     do {
-        it->is_hit = is_in_frame(in, it->page);
-        status = it->is_hit      ? pin_resident(its, in, it)
-                 : it->is_locked ? pin_listed(its, in, it)
-                                 : pin_absent(its, in, it);
+        status = look_for(its, in, it);
+        if (status == WARM_OK) status = pin_found(its, in, it);
     } while (status == READ_AGAIN);
     return status;
 }
@@ -389,8 +400,12 @@ __attribute__((noinline)) static int unpin_in_shard(opened *its, warm_slot slot)
     if (its->pins == 0 || slot.shard >= its->count) return WARM_STALE_SLOT;
     shard *in = &its->shards[slot.shard];
     bool is_locked = enter(its, in);
+    writing *written = write_of_slot(in, slot_in(slot));
+    unpin_write(in, written);
     int status = node_unpin(&in->node, slot_in(slot));
+    pin_write(in, written);
     if (status == WARM_OK) in->table.pinned--;
+    if (in->wanting > 0) pthread_cond_broadcast(&in->call_over);
     leave(in, is_locked);
     if (status == WARM_OK) its->pins--;
     return status;
@@ -407,16 +422,20 @@ int warm_unpin(warm *handle, warm_slot slot) {
 typedef struct visit {
     shard *in;
     node_slot slot;
-    writing *changed; /* of the page, where the call changes it, and it is being written */
-    bool is_locked, is_pinned;
+    writing *written; /* of the page, where it is being written */
+    bool is_locked, is_pinned, changes;
 } visit;
 
-/* The entry of the slot's page, where it is being written and is copied; or NULL. */
-__attribute__((noinline)) static writing *copied_write(shard *in, node_slot slot) {
-    writing *at;
-    do at = write_of_slot(in, slot);
-    while (!may_change(in, at));
-    return at;
+/* Looks whether the slot's page is being written: it is copied then, if the call changes it.
+ * WARM_OK, or WARM_BUSY. */
+__attribute__((noinline)) static int look_for_write(const opened *its, visit *made) {
+    patience left = {0};
+    int status;
+    do {
+        made->written = write_of_slot(made->in, made->slot);
+        status = made->changes ? may_change(its, made->in, made->written, &left) : WARM_OK;
+    } while (status == READ_AGAIN);
+    return status;
 }
 
 /* Whether the handle is open and the shard there, or why not. Who is about to change the page waits
@@ -426,8 +445,14 @@ static int enter_slot_to(warm *handle, warm_slot slot, visit *made, bool changes
     if (its == NULL) return WARM_CLOSED;
     if (slot.shard >= its->count) return WARM_STALE_SLOT;
     shard *in = &its->shards[slot.shard];
-    *made = (visit){.in = in, .slot = slot_in(slot), .is_locked = enter(its, in)};
-    if (changes && in->writes != NULL) made->changed = copied_write(in, made->slot);
+    *made = (visit){
+        .in = in, .slot = slot_in(slot), .is_locked = enter(its, in), .changes = changes};
+    int status = in->writes != NULL ? look_for_write(its, made) : WARM_OK;
+    if (status != WARM_OK) {
+        leave(in, made->is_locked);
+        return status;
+    }
+    unpin_write(in, made->written);
     if (changes) in->may_be_dirty = true;
     made->is_pinned = pin_held(its, in, made->slot);
     return WARM_OK;
@@ -442,8 +467,9 @@ static int enter_slot_to_write(warm *handle, warm_slot slot, visit *made) {
 }
 
 static int leave_slot(const visit *made, int status) {
-    if (made->changed != NULL && status == WARM_OK) note_change(made->changed);
+    if (made->changes && status == WARM_OK) note_change(made->written);
     if (made->is_pinned) node_unpin(&made->in->node, made->slot);
+    pin_write(made->in, made->written);
     leave(made->in, made->is_locked);
     return status;
 }
@@ -538,7 +564,8 @@ static int step_in(opened *its, shard *in, load *it, bool *found) {
     do {
         status = node_next(&in->node, found, &it->page);
         if (status != WARM_OK || !*found) return status;
-        status = wait_for_read(in, it->page) ? READ_AGAIN : load_read(its, in, it);
+        status = wait_for_read(its, in, it->page, &it->left);
+        if (status == WARM_OK) status = load_read(its, in, it);
     } while (status == READ_AGAIN);
     return status;
 }
@@ -570,8 +597,10 @@ int warm_prefetch(warm *handle, warm_page page) {
     load it = {.page = page_in(page)};
     shard *in = shard_of(its, it.page);
     it.is_locked = enter(its, in);
-    do status = is_in_frame(in, it.page) ? WARM_OK : load_read(its, in, &it);
-    while (status == READ_AGAIN);
+    do {
+        status = look_for(its, in, &it);
+        if (status == WARM_OK && !it.is_hit) status = load_read(its, in, &it);
+    } while (status == READ_AGAIN);
     leave(in, it.is_locked);
     return status;
 }

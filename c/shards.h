@@ -26,6 +26,7 @@
 #include "holds.h"
 #include "proved.h"
 #include "reads.h"
+#include "waits.h"
 #include "writes.h"
 
 #include <pthread.h>
@@ -38,6 +39,7 @@ typedef struct shard {
     _Alignas(LINE) pthread_cond_t call_over; /* a read, a write, or its copying */
     bool may_be_dirty; /* where not, no page is, and the node need not look at each frame */
     unsigned leaving;  /* how many wait for writes, to forget pages or replace a device */
+    unsigned wanting;  /* how many wait for a frame */
     writing *writes;   /* pages that are being written */
     size_t hand;       /* the frame with which the next portion of a write-back begins */
     _Alignas(LINE) table table;
@@ -60,6 +62,7 @@ typedef struct replica {
     known_device *known;
     size_t device_count; /* how many were numbered */
     size_t synced_count; /* how many of these are counted by sync_once.h */
+    uint64_t steps;      /* that made reads stale; who is in all shards counts one */
     atomic_size_t handles;   /* how many are open */
     _Atomic uint64_t limit, horizon_limit; /* of times in frames */
     atomic_size_t page_limit;              /* of pages known */
@@ -97,17 +100,24 @@ typedef struct opened {
     uint32_t used; /* bit i: hold i names a record */
     own_hold own[HOLDS];
     size_t turn; /* the shard with which the next warm_step begins */
+    uint64_t longest_wait; /* of a call, in milliseconds (waits.h); UINT64_MAX: no limit */
     bool is_first; /* whether it opened the replica */
     bool has_failed;
     node_failure failure; /* of a device, in a call of the handle, the last one; where has_failed */
     uint64_t failed;      /* how many were in that call, or were skipped */
     answers waiting;
     void *block;
+    /* bit i: a portion has passed the page in frame i of its shard, which another call was writing;
+     * 0 between portions. It is behind the devices' bits */
+    uint8_t *passed;
     /* bit i: in the call that is made, a write to device i has failed; 0 between calls */
     uint8_t unwritten[];
 } opened;
 
 static inline size_t bytes_of_devices(const replica *of) { return (of->device_count + 7) / 8; }
+
+/* Of a shard. */
+static inline size_t bytes_of_frames(const replica *of) { return (of->frames / of->count + 7) / 8; }
 
 /* As shard_of of crates/warm_shards has it: the page's bucket, (dev + no) modulo 64, modulo the
  * number of shards, which is a power of two up to 64. The proved part is not asked, so that a hit

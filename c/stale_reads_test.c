@@ -66,6 +66,33 @@ static void forgetting_all(int last) {
     close_all();
 }
 
+/* Who forgets or replaces waits for no read that somebody else has made stale since. Who is last
+ * waits for all of them. */
+static void later_forgetting(int call) {
+    open_all(1, 4);
+    for (int number = 0; number < 2; number++) {
+        stops_at = 5 + number;
+        begin(number, PINS, page_at(5 + (uint64_t)number));
+        until_begun(number + 1);
+        begin(number + 2, number == 0 ? call : FORGETS, page_at(0));
+        until_waiting(number + 1);
+    }
+    ends_first = 0;
+    MUST(end(2) == WARM_OK && end(0) == WARM_OK);
+    not_over(3);
+    begin(2, FORGETS, page_at(6));
+    until_waiting(2);
+    wake_all();
+    not_over(2);
+    not_over(3);
+    ends_first = -1;
+    may_end = 2;
+    MUST(end(1) == WARM_OK && end(2) == WARM_OK && end(3) == WARM_OK && reads == 4);
+    unpin(0);
+    unpin(1);
+    close_all();
+}
+
 /* The old read of a page that was forgotten fails: that is of no account. */
 static void test_forgotten_failure(void) {
     open_all(1, 2);
@@ -81,6 +108,41 @@ static void test_forgotten_failure(void) {
          !has_failure(&callers[0].handle));
     has_counted(0, 2, 1);
     close_all();
+}
+
+/* A pin that has read its page, or needs no read, and writes a page of another device to have its
+ * frame, or waits for that, keeps nobody who forgets its page or replaces the device. */
+static void pin_without_frame(int call, int leaves, bool waits) {
+    const warm_page page = {.dev = 1, .no = 5};
+    open_dirty(1);
+    in_files[11][5] = in_files[20][5] = 'n';
+    stop_writes_of(bit(0));
+    if (call == PINS) {
+        stops_at = 5;
+        begin(1, call, page);
+        until_begun(1);
+    }
+    if (waits) begin(2, WRITES_ONE, page_at(0));
+    if (waits) until_written(bit(0));
+    if (call != PINS) begin(1, call, page);
+    may_end = 1;
+    if (waits) until_waiting(1);
+    else until_written(bit(0));
+    begin(3, leaves, page);
+    MUST(end(3) == WARM_OK);
+    not_over(1);
+    end_writes(bit(0));
+    MUST(end(1) == WARM_OK && (!waits || end(2) == WARM_OK) && written_locked == 0);
+    MUST(reads == (call == PINS ? 2 : 0) && put == 1);
+    MUST(read_from(&first, page) == (call == PINS ? 'n' : 0));
+    unpin(1);
+    close_all();
+}
+
+static void test_pins_without_frames(void) {
+    for (int call = PINS; call <= PINS_ZEROED; call++)
+        for (int way = 0; way < 4; way++)
+            pin_without_frame(call, way % 2 == 0 ? FORGETS : REPLACES, way > 1);
 }
 
 /* ---- devices that are replaced ---- */
@@ -278,7 +340,10 @@ int main(void) {
     test_forgetting();
     forgetting_all(0);
     forgetting_all(1);
+    later_forgetting(FORGETS);
+    later_forgetting(REPLACES);
     test_forgotten_failure();
+    test_pins_without_frames();
     test_replacing();
     test_replacing_by_itself();
     test_replacing_by_same_calls();

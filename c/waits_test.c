@@ -1,7 +1,8 @@
 /*
  * Tests for whom a write-back waits (write_back.c, writes.c), over fake_library.h: for a write of
  * another call that is under way, and for one that has begun since, and for no third one, however
- * often other threads change the page and write it.
+ * often other threads change the page and write it. A portion waits in the end, and tries no page
+ * twice.
  */
 #include "callers.h"
 
@@ -60,6 +61,65 @@ static void test_two_waiters(void) {
         MUST(in_files[10][0] == 'd' && syncs == 1 && written_locked == 0);
         close_all();
     }
+}
+
+/* ---- portions ---- */
+
+/* A portion waits in the end for a page that another call writes, and does not try once more a page
+ * that has failed: the failure is counted once. */
+static uint64_t stuck_no;
+
+static bool is_the_stuck(node_page page) { return page.no == stuck_no; }
+
+static void portion_beside_a_write(uint64_t no, uint64_t stuck, size_t hand) {
+    open_dirty(3);
+    ((opened *)first.at)->shards[0].hand = hand;
+    stuck_no = stuck;
+    is_stuck = is_the_stuck;
+    stop_writes_of(bit(no));
+    begin(0, WRITES_ONE, page_at(no));
+    until_written(bit(no));
+    begin(1, WRITES_SOME, page_at(0));
+    until_waiting(1);
+    not_over(1);
+    MUST(in_files[10][2] == 'd');
+    end_writes(bit(no));
+    MUST(end(0) == WARM_OK && end(1) == WARM_WRITE_FAULT);
+    must_have_failed(&callers[1].handle, stuck, 0, WARM_FAILED_WRITE, EIO);
+    MUST(failures(&callers[1].handle) == 1 && !is_dirty(no) && is_dirty(stuck) && !is_dirty(2));
+    is_stuck = NULL;
+    close_all();
+}
+
+/* It has passed a page whose write is over before it waits for that: it writes the page, which was
+ * changed behind that write's back, and no other one a second time. */
+static void portion_behind_a_write(bool is_changed) {
+    caller *its = &callers[1];
+    open_dirty(4);
+    stuck_no = 2;
+    is_stuck = is_the_stuck;
+    stop_writes_of(bit(0) | bit(3));
+    begin(0, WRITES_ONE, page_at(0));
+    until_written(bit(0));
+    begin(1, WRITES_SOME, page_at(0));
+    until_written(bit(3));
+    if (is_changed) write_to(&first, page_at(0), 'c');
+    end_writes(bit(0));
+    MUST(end(0) == WARM_OK && is_dirty(0) == is_changed);
+    write_to(&first, page_at(1), 'l'); /* which the portion has written before */
+    end_writes(bit(3));
+    MUST(end(1) == WARM_WRITE_FAULT && failures(&its->handle) == 1);
+    MUST(!is_dirty(0) && is_dirty(1) && is_dirty(2) && !is_dirty(3) && put == 3 + is_changed);
+    MUST(in_files[10][0] == (is_changed ? 'c' : 'd') && in_files[10][1] == 'd');
+    MUST(((opened *)its->handle.at)->passed[0] == 0);
+    is_stuck = NULL;
+    close_all();
+}
+
+static void test_portions(void) {
+    for (int way = 0; way < 6; way++)
+        portion_beside_a_write((uint64_t)way % 2, 1 - (uint64_t)way % 2, (size_t)way / 2);
+    for (int way = 0; way < 2; way++) portion_behind_a_write(way > 0);
 }
 
 /* A flush waits for a page that another call writes to have its frame, and syncs after that. */
@@ -172,6 +232,7 @@ int main(void) {
     alarm(600);
     test_two_writers();
     test_two_waiters();
+    test_portions();
     test_flush_behind_a_miss();
     test_busy_page();
     puts("waits_test: as expected");

@@ -128,47 +128,41 @@ int warm_history_length(warm *handle, size_t *length) {
     return WARM_OK;
 }
 
-/* Opens a history alone. */
-static int open_alone(opened *its, node *alone) {
-    const node_device none = {0};
-    return node_open(alone, its->of->number, 1, 1, &none, 0);
-}
-
-/* A copy of the history of all shards, which is closed where it is refused. */
-static int gather(opened *its, node *all) {
-    int status = open_alone(its, all);
+/* Opens a history, and joins those of all shards to it. The caller closes it in any case. */
+static int gather(opened *its, peer *all) {
+    int status = peer_open(all, its->of->number);
     for (size_t number = 0; number < its->count && status == WARM_OK; number++) {
         shard *in = &its->shards[number];
         bool is_locked = enter(its, in);
-        status = node_gather(all, &in->node);
+        status = peer_gather(all, &in->node);
         leave(in, is_locked);
     }
-    if (status != WARM_OK) node_close(all);
+    return status;
+}
+
+static int list_one(opened *its, shard *in, node_page *pages, size_t room, size_t *count) {
+    bool is_locked = enter(its, in);
+    int status = node_list(&in->node, pages, room, count);
+    leave(in, is_locked);
+    return status;
+}
+
+static int list_all(opened *its, node_page *pages, size_t room, size_t *count) {
+    peer all = {0};
+    int status = gather(its, &all);
+    if (status == WARM_OK) status = peer_list(&all, pages, room, count);
+    peer_close(&all);
     return status;
 }
 
 /* A page of the caller's is as large as one of the proved part, which writes into its place. */
-static int list_of(node *from, warm_page *pages, size_t room, size_t *count) {
-    int status = node_list(from, (node_page *)pages, room, count);
-    if (status == WARM_OK) pages_out(pages, *count);
-    return status;
-}
-
 int warm_list(warm *handle, warm_page *pages, size_t room, size_t *count) {
     opened *its = handle->at;
-    node all = {0};
+    node_page *into = (node_page *)pages;
     if (its == NULL) return WARM_CLOSED;
-    if (its->count == 1) {
-        shard *in = &its->shards[0];
-        bool is_locked = enter(its, in);
-        int status = list_of(&in->node, pages, room, count);
-        leave(in, is_locked);
-        return status;
-    }
-    int status = gather(its, &all);
-    if (status != WARM_OK) return status;
-    status = list_of(&all, pages, room, count);
-    node_close(&all);
+    int status = its->count == 1 ? list_one(its, &its->shards[0], into, room, count)
+                                 : list_all(its, into, room, count);
+    if (status == WARM_OK) pages_out(pages, *count);
     return status;
 }
 
@@ -180,12 +174,11 @@ static bool has_one_alone(const opened *its) {
 
 /* Writes a dump to a descriptor, or to a device that has a number. */
 static int save_to(opened *its, int number) {
-    node all = {0};
+    peer all = {0};
     if (has_one_alone(its)) return node_save(&its->shards[0].node, number);
     int status = gather(its, &all);
-    if (status != WARM_OK) return status;
-    status = node_save(&all, number);
-    node_close(&all);
+    if (status == WARM_OK) status = peer_save(&all, number);
+    peer_close(&all);
     return status;
 }
 
@@ -205,63 +198,25 @@ int warm_save_to(warm *handle, const warm_device *file) {
     return status;
 }
 
-/* Sends a bucket of one history to another, in messages, and the horizon with it. */
-static int send_bucket(node *from, uint8_t bucket, node *to, uint8_t *message) {
+/* Each shard joins what a history has of its pages, all of it or nothing. */
+static int join_parts(opened *its, peer *all) {
     int status = WARM_OK;
-    bool more = true, has_after = false;
-    node_page after = {0}, last = {0};
-    while (more && status == WARM_OK) {
-        size_t length;
-        status = node_send_since(
-            from, bucket, 0, has_after, after, message, WARM_MESSAGE_ROOM, &length, &more, &last);
-        if (status == WARM_OK) status = node_receive_part(to, 1, 0, message, length);
-        has_after = true;
-        after = last;
+    for (size_t number = 0; number < its->count && status == WARM_OK; number++) {
+        shard *in = &its->shards[number];
+        bool is_locked = enter(its, in);
+        status = node_join_part(&in->node, its->count, number, all);
+        leave(in, is_locked);
     }
     return status;
 }
 
-/* Joins a history to that of a shard. */
-static int join_one(opened *its, shard *in, node *all) {
-    bool is_locked = enter(its, in);
-    int status = node_gather(&in->node, all);
-    leave(in, is_locked);
-    return status;
-}
-
-/* Joins what a history has of a shard's buckets to the shard, by way of a history of these alone,
- * so that the shard gets all of them or none. */
-static int join_shard(opened *its, size_t number, node *all, uint8_t *message) {
-    node part = {0};
-    shard *in = &its->shards[number];
-    int status = open_alone(its, &part);
-    for (size_t bucket = number; bucket < WARM_BUCKETS && status == WARM_OK; bucket += its->count)
-        status = send_bucket(all, (uint8_t)bucket, &part, message);
-    if (status == WARM_OK) status = join_one(its, in, &part);
-    node_close(&part);
-    return status;
-}
-
-/* Joins a history to those of all shards. */
-static int join_all(opened *its, node *all) {
-    int status = WARM_OK;
-    if (its->count == 1) return join_one(its, &its->shards[0], all);
-    uint8_t *message = malloc(WARM_MESSAGE_ROOM);
-    if (message == NULL) return WARM_MEMORY;
-    for (size_t number = 0; number < its->count && status == WARM_OK; number++)
-        status = join_shard(its, number, all, message);
-    free(message);
-    return status;
-}
-
 static int load_from(opened *its, int number, uint64_t length) {
-    node all = {0};
+    peer all = {0};
     if (has_one_alone(its)) return node_load(&its->shards[0].node, number, length);
-    int status = open_alone(its, &all);
-    if (status != WARM_OK) return status;
-    status = node_load(&all, number, length);
-    if (status == WARM_OK) status = join_all(its, &all);
-    node_close(&all);
+    int status = peer_open(&all, its->of->number);
+    if (status == WARM_OK) status = peer_load(&all, number, length);
+    if (status == WARM_OK) status = join_parts(its, &all);
+    peer_close(&all);
     return status;
 }
 

@@ -106,7 +106,7 @@ static bool says(int status, const char *words) {
 
 /* Each status has words of its own behind its name, and no other number has any. */
 static void test_words(void) {
-    static const int last[] = {13, 42, 88};
+    static const int last[] = {13, 42, 89};
     const char *none = warm_strerror(-1);
     int named = 0;
     for (int status = -100; status < 1000; status++) {
@@ -118,7 +118,7 @@ static void test_words(void) {
                     : words == none);
         named += is_one;
     }
-    MUST(named == 14 + 9 + 25 && strncmp(none, "WARM_", 5) != 0);
+    MUST(named == 14 + 9 + 26 && strncmp(none, "WARM_", 5) != 0);
     MUST(says(INT32_MAX, none));
     MUST(says(WARM_OK, "WARM_OK: done"));
     MUST(says(WARM_BAD_ORDER,
@@ -200,6 +200,24 @@ static void test_memory(void) {
     length = 77;
     EACH_REFUSED(warm_next_answer(&handle, frame, sizeof frame, &length), length == 77);
     OK(warm_abandon(&handle));
+    nothing_left();
+}
+
+/* Each shard has its part of a dump, two references of eight; without memory, the first shards. */
+static void test_loads_in_parts(void) {
+    warm handle = {0};
+    open_shards(&handle, 4);
+    size_t before = 0;
+    for (size_t grants = 2; grants < 6; grants++) { /* the first two open it and read */
+        granted = grants;
+        MUST(warm_load(&handle, 1, 8) == WARM_MEMORY);
+        granted = SIZE_MAX;
+        MUST(known(&handle) == before + 2 * (grants - 2));
+        before = known(&handle);
+    }
+    OK(warm_load(&handle, 1, 8));
+    MUST(known(&handle) == before + 8);
+    OK(warm_close(&handle));
     nothing_left();
 }
 
@@ -426,6 +444,7 @@ int main(void) {
     test_lists();
     test_sending();
     test_memory();
+    test_loads_in_parts();
     test_answers();
     test_no_lock_during_save_and_load_of_one_shard();
     test_counts();

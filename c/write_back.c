@@ -14,16 +14,19 @@
 /* ---- dirty pages of a shard ---- */
 
 /* Which pages are to be written: of this device, or of all where it is ALL; how many at most; and
- * how many were, and what the call is refused with. Where it passes pages that another call writes,
- * it does not wait for these; and whether it has passed one. */
+ * how many were, and what the call is refused with. A walk may pass pages that another call writes,
+ * for which it would wait; another one means the frames alone that had these. */
 enum { ALL = -1 };
 
 typedef struct walk {
     int dev;
     size_t limit, written;
-    bool passes, has_passed;
+    enum { MEANS_ALL, PASSES, MEANS_PASSED } means;
+    bool has_passed;
     int status;
 } walk;
+
+static void set_bit(uint8_t *bits, size_t at) { bits[at / 8] |= (uint8_t)(1 << at % 8); }
 
 /* The call is refused with its first failure; with a page that was skipped, only where nothing has
  * failed. Where a write has failed, its device is not synced by this call: the descriptor may be
@@ -32,15 +35,13 @@ typedef struct walk {
 static void add_unwritten(opened *its, node_page page, int error, int *all) {
     bool is_skip = error == EAGAIN;
     count_failure(its, *all);
-    if (!is_skip) its->unwritten[page.dev / 8] |= (uint8_t)(1 << page.dev % 8);
+    if (!is_skip) set_bit(its->unwritten, page.dev);
     if (*all == WARM_WRITE_FAULT || (is_skip && *all == WARM_SKIPPED)) return;
     note_failure(its, page, WARM_FAILED_WRITE, error);
     *all = is_skip ? WARM_SKIPPED : WARM_WRITE_FAULT;
 }
 
-static bool is_unwritten(const opened *its, size_t dev) {
-    return (its->unwritten[dev / 8] >> dev % 8 & 1) != 0;
-}
+static bool has_bit(const uint8_t *bits, size_t at) { return (bits[at / 8] >> at % 8 & 1) != 0; }
 
 /* What a call is refused with, at its end. */
 static int status_of(opened *its, const walk *of) {
@@ -83,10 +84,12 @@ static bool next_dirty(shard *in, size_t *frame, node_page *page) {
     return found;
 }
 
-/* Whether a page is to be written, or to be waited for. */
-static bool is_meant_by(walk *of, const shard *in, node_page page) {
+/* Whether the page in a frame is to be written, or to be waited for. */
+static bool is_meant_by(opened *its, walk *of, const shard *in, size_t frame, node_page page) {
     if (of->dev != ALL && of->dev != page.dev) return false;
-    if (!of->passes || write_of_page(in, page) == NULL) return true;
+    if (of->means == MEANS_PASSED) return has_bit(its->passed, frame);
+    if (of->means == MEANS_ALL || write_of_page(in, page) == NULL) return true;
+    set_bit(its->passed, frame);
     of->has_passed = true;
     return false;
 }
@@ -99,7 +102,7 @@ static size_t write_between(
     opened *its, shard *in, bool is_locked, walk *of, size_t frame, size_t end) {
     node_page page;
     while (of->written < of->limit && next_dirty(in, &frame, &page) && frame < end) {
-        if (is_meant_by(of, in, page)) write_page(its, in, page, is_locked, of);
+        if (is_meant_by(its, of, in, frame, page)) write_page(its, in, page, is_locked, of);
         frame++;
     }
     return frame;
@@ -114,18 +117,25 @@ static size_t dirty_in(shard *in) {
 
 /* ---- portions, and one page ---- */
 
+/* The pages that were passed, which another call may still write, or have written before they were
+ * changed. A page that has left its frame meanwhile was written to leave. */
+static void write_passed(opened *its, shard *in, bool is_locked, walk *of) {
+    of->means = MEANS_PASSED;
+    write_between(its, in, is_locked, of, 0, SIZE_MAX);
+    memset(its->passed, 0, bytes_of_frames(its->of));
+}
+
 /* Begins behind where the last portion of the shard ended, and goes on from the first frame: so no
  * page waits for ever behind those that are changed again, or cannot be written. Pages that another
  * call writes are waited for in the end, where there are not enough others: else a portion would
- * wait for each page of a write-back of all. */
+ * wait for each page of a write-back of all. No page that has failed is tried again. */
 static void write_from_hand(opened *its, shard *in, bool is_locked, walk *of) {
     size_t first = in->hand;
-    of->passes = true;
+    of->means = PASSES;
     of->has_passed = false;
     in->hand = write_between(its, in, is_locked, of, first, SIZE_MAX);
     if (of->written < of->limit) in->hand = write_between(its, in, is_locked, of, 0, first);
-    of->passes = false;
-    if (of->has_passed) write_between(its, in, is_locked, of, 0, SIZE_MAX);
+    if (of->has_passed) write_passed(its, in, is_locked, of);
 }
 
 /* Writes a portion of what waits in a shard, and returns how many pages are left. */
@@ -215,7 +225,7 @@ static void sync_and_count(opened *its, uint16_t dev, sync_use *taken, int *all)
  * meanwhile has synced it before. */
 static void sync_device(opened *its, uint16_t dev, int *all) {
     shard *in = &its->shards[0];
-    if (is_unwritten(its, dev)) return;
+    if (has_bit(its->unwritten, dev)) return;
     bool is_locked = enter(its, in);
     sync_use *taken = sync_take(its->of->known[dev].synced_as);
     leave(in, is_locked);
@@ -306,14 +316,15 @@ int warm_forget_pages(warm *handle, uint16_t dev, uint64_t from) {
     if (its == NULL) return WARM_CLOSED;
     bool are_locked = enter_all_unwritten(its, dev, from);
     int status = may_all_forget(its, dev, from);
+    uint64_t step = ++its->of->steps;
     for (size_t number = 0; number < its->count && status == WARM_OK; number++) {
         shard *in = &its->shards[number];
         status = node_forget(&in->node, dev, from);
-        make_stale(in, dev, from);
+        make_stale(in, dev, from, step);
         note_left(in);
     }
     leave_all(its, are_locked);
-    if (status == WARM_OK) wait_for_stale(its, dev);
+    if (status == WARM_OK) wait_for_stale(its, dev, step);
     return status;
 }
 
@@ -380,12 +391,13 @@ static void begin_counts(known_device *known) {
 }
 
 /* Replaces a device that is numbered and whose syncs are counted; writes what is let go. */
-static int replace_entered(opened *its, uint16_t dev, node_device *device, int *synced_as) {
+static int replace_entered(
+    opened *its, uint16_t dev, node_device *device, int *synced_as, uint64_t step) {
     node_device *place = &its->of->devices[dev], before = *place;
     known_device *known = &its->of->known[dev];
     int status = replace_in_all(its, dev, device);
     for (size_t number = 0; number < its->count; number++) {
-        if (status == WARM_OK) make_stale(&its->shards[number], dev, 0);
+        if (status == WARM_OK) make_stale(&its->shards[number], dev, 0, step);
         note_left(&its->shards[number]);
     }
     if (status != WARM_OK) return status;
@@ -403,10 +415,11 @@ static int replace_numbered(opened *its, uint16_t dev, node_device *device) {
     if (!sync_add(synced_as)) return WARM_MEMORY;
     bool are_locked = enter_all_unwritten(its, dev, 0);
     fd_calls_remember(its->of->device_count);
-    int status = replace_entered(its, dev, device, &synced_as);
+    uint64_t step = ++its->of->steps;
+    int status = replace_entered(its, dev, device, &synced_as, step);
     fd_calls_forget();
     leave_all(its, are_locked);
-    if (status == WARM_OK) wait_for_stale(its, dev); /* they are reads of what is let go */
+    if (status == WARM_OK) wait_for_stale(its, dev, step); /* reads of what is let go */
     sync_drop(synced_as);
     return status;
 }

@@ -58,10 +58,10 @@ static void await_write(shard *in, writing *it) {
     pthread_cond_wait(&in->call_over, &in->lock);
 }
 
-bool may_change(shard *in, writing *at) {
-    if (at == NULL || !at->is_asked) return true;
-    await_write(in, at);
-    return false;
+int may_change(const opened *its, shard *in, writing *at, patience *left) {
+    if (at == NULL || !at->is_asked) return WARM_OK;
+    at->is_awaited = true;
+    return await_call(its, in, left);
 }
 
 void note_change(writing *at) {
@@ -78,9 +78,12 @@ bool wait_for_write(shard *in, node_page page, int *error) {
     return true;
 }
 
-void wait_for_any_write(shard *in) {
+int wait_for_any_write(const opened *its, shard *in, patience *left) {
     for (writing *at = in->writes; at != NULL; at = at->next) at->is_awaited = true;
-    pthread_cond_wait(&in->call_over, &in->lock);
+    in->wanting++;
+    int status = await_call(its, in, left);
+    in->wanting--;
+    return status;
 }
 
 void wait_for_writes(shard *in, uint16_t dev, uint64_t from) {

@@ -24,6 +24,7 @@
 #define WRITES_H
 
 #include "nodes.h"
+#include "waits.h"
 
 struct opened;
 struct shard;
@@ -57,9 +58,10 @@ bool write_outside(struct opened *its, struct shard *in, node_page page, int *er
 writing *write_of_page(const struct shard *in, node_page page);
 writing *write_of_slot(const struct shard *in, node_slot slot);
 
-/* Whether a page with this entry, or with none (NULL), may be changed. False where it was not
- * copied yet: waits for that, and its entry is to be looked for again. */
-bool may_change(struct shard *in, writing *at);
+/* WARM_OK where a page with this entry, or with none (NULL), may be changed. Where it was not
+ * copied yet, waits for that, and returns READ_AGAIN: its entry is to be looked for again; or
+ * WARM_BUSY. */
+int may_change(const struct opened *its, struct shard *in, writing *at, patience *left);
 
 /* Notes that it was changed: a call that is refused leaves it as it was. */
 void note_change(writing *at);
@@ -68,8 +70,9 @@ void note_change(writing *at);
  * came of it. */
 bool wait_for_write(struct shard *in, node_page page, int *error);
 
-/* Waits until one of the pages is written that are being written. */
-void wait_for_any_write(struct shard *in);
+/* Waits until one of the pages is written that are being written, or one is unpinned in the node,
+ * and returns READ_AGAIN; or WARM_BUSY. */
+int wait_for_any_write(const struct opened *its, struct shard *in, patience *left);
 
 /* Whether pages of a device are being written, with this number and above; and waits until none
  * is. */

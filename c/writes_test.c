@@ -631,8 +631,8 @@ static void test_no_other_frame_then(void) {
     }
 }
 
-/* A page is forgotten while another one is written to leave for it: what was read is of no use, and
- * who forgets waits for that. */
+/* A page is forgotten while another one is written to leave for it: what was read is of no use. Who
+ * forgets waits for no such write: nothing of the page is read any more. */
 static void test_stale_meanwhile(void) {
     for (int call = PINS; call <= PREFETCHES; call++) {
         open_dirty(1);
@@ -641,11 +641,11 @@ static void test_stale_meanwhile(void) {
         begin(0, call, page_at(5));
         until_written(bit(0));
         begin(1, FORGETS, page_at(5));
-        until_waiting(1);
+        MUST(end(1) == WARM_OK);
         in_files[10][5] = 'n';
-        not_over(1);
+        not_over(0);
         end_writes(bit(0));
-        MUST(end(0) == WARM_OK && end(1) == WARM_OK && reads == (call == PINS_ZEROED ? 0 : 2));
+        MUST(end(0) == WARM_OK && reads == (call == PINS_ZEROED ? 0 : 2));
         MUST(put == 1 && read_from(&first, page_at(5)) == (call == PINS_ZEROED ? 0 : 'n'));
         if (call <= PINS_ZEROED) unpin(0);
         close_all();
@@ -667,9 +667,9 @@ static void test_failures_of_two_tries(void) {
     begin(0, PINS, page_at(5));
     until_written(bit(0));
     begin(1, FORGETS, page_at(5));
-    until_waiting(1);
+    MUST(end(1) == WARM_OK);
     end_writes(bit(0));
-    MUST(end(0) == WARM_OK && end(1) == WARM_OK && stuck_error == 42 && reads == 2);
+    MUST(end(0) == WARM_OK && stuck_error == 42 && reads == 2);
     must_have_failed(&callers[0].handle, 0, 0, WARM_FAILED_WRITE, 41);
     MUST(failures(&callers[0].handle) == 2 && callers[0].slot.index == 1);
     is_stuck = NULL;

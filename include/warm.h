@@ -17,12 +17,14 @@
    2-distance.
 
    Threads. Each thread has its own handle (warm_attach). A call on a page, a slot or a bucket locks
-   its shard, but not while it reads or writes a page. A call on the whole replica locks one shard
-   after another; warm_forget_pages and warm_replace lock all at once, and wait for reads and writes
-   of their pages. A pin of a page pinned twice since it was loaded, and its unpin, usually take no
-   lock, for 8 pages of a handle at a time. A call waits while another call reads its page, and
-   before it writes a page, while another writes it. If that read or write fails, the call makes its
-   own. If another call's second write is under way by then, the call has its result.
+   its shard, but not while it reads a page, and seldom while it writes one. A call on the whole
+   replica locks one shard after another; warm_forget_pages and warm_replace lock all at once, and
+   wait for reads and writes of their pages; warm_replace locks all while it writes and flushes. A
+   pin of a page pinned twice since it was loaded, and its unpin, usually take no lock, for 8 pages
+   of a handle at a time. A call waits while another call reads its page, and before it writes a
+   page, while another writes it. If that read or write fails, the call makes its own. If another
+   call's second write is under way by then, the call has its result. If all pages that could leave
+   for its page are being written, a pin waits for one of these writes. See warm_limit_waits.
    The calls on a shard have one order; a call on several shards is not one step.
 
    You may pass any slot, page, number, length, message or descriptor: the call is refused, or does
@@ -116,7 +118,8 @@ typedef enum warm_status {
     WARM_BAD_OPTIONS = 85,       /* a size or flag of another version */
     WARM_BAD_DEVICE = 86,        /* too many devices, or too large; bad ops */
     WARM_DIRTY = 87,             /* dirty pages would be lost */
-    WARM_SKIPPED = 88            /* before_write skipped pages; nothing has failed */
+    WARM_SKIPPED = 88,           /* before_write skipped pages; nothing has failed */
+    WARM_BUSY = 89               /* the limit of warm_limit_waits is over */
 } warm_status;
 
 /* A handle. All zeros is a closed one. */
@@ -218,6 +221,14 @@ int warm_close(warm *handle);
    Refused: WARM_ATTACHED. */
 int warm_abandon(warm *handle);
 
+/* Sets how long later calls of this handle wait for reads, writes and before_write of other calls:
+   each this many milliseconds from its first wait on; UINT64_MAX, as at first: without a limit.
+   After that pins, warm_prefetch, warm_step, warm_write, warm_bytes_mut and warm_mark_dirty are
+   refused with WARM_BUSY: call again. A wait for a locked shard has no limit, nor have other calls.
+   Write-backs wait for two writes of each page at most, and for syncs; warm_forget_pages and
+   warm_replace for what was under way at the call. */
+int warm_limit_waits(warm *handle, uint64_t milliseconds);
+
 /* Writes into options, whose size is set, what the replica was opened with: defaults in place of
    zeros, and devices null. With one latch a frame, a slot's has the index
    slot.shard * (frames / shards) + slot.index.
@@ -269,7 +280,8 @@ int warm_bytes(warm *handle, warm_slot slot, const uint8_t **bytes);
    without warm_mark_dirty. */
 int warm_bytes_mut(warm *handle, warm_slot slot, uint8_t **bytes);
 
-/* Makes the slot's page dirty, after writing by a pointer and before its latch is released.
+/* Makes the slot's page dirty, after writing by a pointer and before its latch is released, also
+   where it is called again after WARM_BUSY.
    Refused: WARM_STALE_SLOT. */
 int warm_mark_dirty(warm *handle, warm_slot slot);
 
@@ -284,7 +296,8 @@ int warm_victims(warm *handle, size_t shard, warm_page *pages, size_t room, size
 
 /* A step of a warm-up. Of a shard's hottest pages, as many as it has frames, it loads the hottest
    that is on a device and in no frame. Writes whether there was one, and which; if not, the pool is
-   warm. Shards take turns, also after a refusal. After changes a step ranks the history again.
+   warm. Shards take turns, also after a refusal. After references a step ranks their pages alone,
+   after 4,000 of a shard its whole history.
    Refused: WARM_MEMORY, WARM_ALL_PINNED, WARM_PINS_FULL, WARM_READ_FAULT, WARM_EVICT_FAULT. */
 int warm_step(warm *handle, bool *found, warm_page *page);
 

@@ -71,6 +71,7 @@ static void closed_handle(void) {
     MUST(attached.at == NULL && lent == &byte);
     EXPECT(WARM_CLOSED, warm_mark_dirty(&handle, slot));
     EXPECT(WARM_CLOSED, warm_settings(&handle, &options));
+    EXPECT(WARM_CLOSED, warm_limit_waits(&handle, 1));
     EXPECT(WARM_CLOSED, warm_victims(&handle, 0, &page, 1, &length));
     EXPECT(WARM_CLOSED, warm_list(&handle, &page, 1, &length));
     EXPECT(WARM_CLOSED, warm_step(&handle, &found, &page));
@@ -326,7 +327,7 @@ static void answers(warm *handle) {
 static void worded(void) {
     MUST(strcmp(warm_strerror(WARM_CLOSED), "WARM_CLOSED: the handle is closed") == 0);
     MUST(strncmp(warm_strerror(WARM_DIGESTS_DIFFER), "WARM_DIGESTS_DIFFER: ", 21) == 0);
-    MUST(strcmp(warm_strerror(WARM_SKIPPED + 1), "there is no such status") == 0);
+    MUST(strcmp(warm_strerror(WARM_BUSY + 1), "there is no such status") == 0);
     MUST(warm_strerror(WARM_BAD_ORDER + 1) == warm_strerror(-1)); /* no status, though a decoder of a stream has such a fault */
     MUST(strcmp(warm_version(), WARM_VERSION) == 0);
 }

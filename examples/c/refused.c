@@ -288,6 +288,7 @@ static void unrefused(warm *handle) {
     UNREFUSED(warm_unpin(handle, slot));
     UNREFUSED(warm_victims(handle, 0, &page, 1, &count));
     UNREFUSED(warm_settings(handle, &options));
+    UNREFUSED(warm_limit_waits(handle, UINT64_MAX));
     UNREFUSED(warm_forget_pages(handle, 0, 3));
     UNREFUSED(warm_counts(handle, &counters));
     UNREFUSED(warm_device_counts(handle, 0, &device_counters));

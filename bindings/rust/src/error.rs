@@ -145,6 +145,8 @@ statuses! {
     Dirty = 87,
     /// `before_write` of a device skipped pages. Nothing has failed.
     Skipped = 88,
+    /// The call has waited for others as long as its handle may.
+    Busy = 89,
 }
 
 /// What a call returns.

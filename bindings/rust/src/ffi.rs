@@ -193,6 +193,7 @@ extern "C" {
         length: *mut usize,
     ) -> c_int;
     pub fn warm_limit(handle: *mut Warm, time: u64) -> c_int;
+    pub fn warm_limit_waits(handle: *mut Warm, milliseconds: u64) -> c_int;
     pub fn warm_limit_history(handle: *mut Warm, horizon: u64, pages: usize) -> c_int;
     pub fn warm_save(handle: *mut Warm, fd: c_int) -> c_int;
     pub fn warm_load(handle: *mut Warm, fd: c_int, length: u64) -> c_int;

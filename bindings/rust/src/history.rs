@@ -2,6 +2,7 @@
 use std::fs::File;
 use std::os::raw::{c_int, c_void};
 use std::os::unix::io::AsRawFd;
+use std::time::Duration;
 
 use crate::error::result;
 use crate::{ffi, Error, Handle, Page, Reference, Result};
@@ -267,6 +268,16 @@ impl Handle {
         let raw = self.enter()?;
         // SAFETY: the handle is open.
         result(unsafe { ffi::warm_limit_history(raw, horizon, pages) })
+    }
+
+    /// Sets how long later calls of this handle wait for reads and writes of other calls, from their
+    /// first wait on: in whole milliseconds, at first without a limit. After that a pin, prefetch,
+    /// write or warm-up step is refused with [`Error::Busy`], and may be called again.
+    pub fn limit_waits(&self, limit: Duration) -> Result<()> {
+        let raw = self.enter()?;
+        let milliseconds = u64::try_from(limit.as_millis()).unwrap_or(u64::MAX);
+        // SAFETY: the handle is open.
+        result(unsafe { ffi::warm_limit_waits(raw, milliseconds) })
     }
 
     /// Writes a dump of the history to an empty file, and syncs it.

@@ -4,6 +4,7 @@ mod common;
 use std::fs::File;
 use std::sync::atomic::{AtomicBool, AtomicUsize, Ordering};
 use std::sync::mpsc::{channel, Receiver, RecvTimeoutError, Sender};
+use std::sync::{Arc, Barrier};
 use std::thread;
 use std::time::{Duration, Instant};
 
@@ -98,6 +99,30 @@ fn waiting_for_a_latch_ends() {
     drop(reading);
     handle.pin_mut(page(1)).unwrap()[0] = 1;
     handle.abandon().unwrap();
+}
+
+#[test]
+fn waiting_for_a_read_ends() {
+    let memory = Memory::default();
+    let handle = over(memory.device());
+    let reader = handle.attach().unwrap();
+    let stops = Arc::new(Barrier::new(2));
+    let in_read = stops.clone();
+    memory.set(move |call, no| {
+        if call == "read" && no == 1 {
+            in_read.wait();
+            in_read.wait();
+        }
+        Ok(())
+    });
+    let reading = thread::spawn(move || reader.pin(page(1)).map(|pin| pin[0]));
+    stops.wait();
+    handle.limit_waits(Duration::from_millis(1)).unwrap();
+    assert_eq!(handle.pin(page(1)).map(|pin| pin[0]), Err(Error::Busy));
+    assert_eq!(handle.pin(page(2)).map(|pin| pin[0]), Ok(0));
+    stops.wait();
+    assert_eq!(reading.join().unwrap(), Ok(0));
+    assert_eq!(handle.pin(page(1)).map(|pin| pin[0]), Ok(0));
 }
 
 #[test]

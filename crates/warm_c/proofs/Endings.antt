@@ -2,19 +2,22 @@
 use Rattle.std.proofs.Common.{◌≡◌, ◌↔◌, ℕ, Option, Some, None, sym, subst}
 use Rattle.std.specs.Prelude.{ℤ, pos}
 use Rattle.warm_c.specs.declared.open_node.OpenNode.{OpenNode}
+use Rattle.warm_c.specs.declared.open_peer.OpenPeer.{OpenPeer}
 use Rattle.warm_c.specs.declared.status.Refusal.{Refusal}
 use Rattle.warm_c.specs.Statuses.{code_of, status_of}
 use Rattle.warm_c.specs.Calls.{Ending}
 use Rattle.warm_c.specs.Values.{IsBool}
 use Rattle.warm_c.specs.Handles.{OpenRequest, OnHandle, OpenRefused, Opens}
+use Rattle.warm_c.specs.PartCalls.{OnTwoHandles}
+use Rattle.warm_c.specs.Peers.{OpensPeer, PeerRefused}
 
 -- an open handle, which holds something before and after
-pub called : (goes : OpenNode → Ending → OpenNode → Type 0) (before after : Option OpenNode)
-    (status : ℤ) (old new : OpenNode) (ending : Ending)
+pub called : {A : Type 0} (goes : A → Ending → A → Type 0) (before after : Option A) (status : ℤ)
+    (old new : A) (ending : Ending)
     → before ≡ Some old → after ≡ Some new → goes old ending new → status ≡ status_of ending
     → OnHandle goes before status after
-called goes before after status old new ending was is went said =
-    subst (λ (o : Option OpenNode). OnHandle goes o status after) (sym was) (subst (λ (o : Option OpenNode). OnHandle goes (Some old) status o) (sym is) (ending, went, said))
+called {A} goes before after status old new ending was is went said =
+    subst (λ (o : Option A). OnHandle goes o status after) (sym was) (subst (λ (o : Option A). OnHandle goes (Some old) status o) (sym is) (ending, went, said))
 
 -- a closed one of which none was made
 pub open_refused : (a : OpenRequest) (before after : Option OpenNode) (status : ℤ) (why : Refusal)
@@ -22,6 +25,23 @@ pub open_refused : (a : OpenRequest) (before after : Option OpenNode) (status : 
     → Opens a before status after
 open_refused a before after status why was is said for =
     subst (λ (o : Option OpenNode). Opens a o status after) (sym was) (subst (λ (o : Option OpenNode). Opens a None status o) (sym is) (why, said, for))
+
+-- a closed one of a history alone, of which none was made
+pub peer_refused : (replica : ℕ) (before after : Option OpenPeer) (status : ℤ) (why : Refusal)
+    → before ≡ None → after ≡ None → status ≡ pos (code_of why) → PeerRefused replica why
+    → OpensPeer replica before status after
+peer_refused replica before after status why was is said for =
+    subst (λ (o : Option OpenPeer). OpensPeer replica o status after) (sym was) (subst (λ (o : Option OpenPeer). OpensPeer replica None status o) (sym is) (why, said, for))
+
+-- two open handles, of which the first holds something before and after, and the second the same
+pub both_called : {A B : Type 0} (goes : B → A → Ending → A → Type 0) (before after : Option A)
+    (from from' : Option B) (status : ℤ) (old new : A) (other : B) (ending : Ending)
+    → before ≡ Some old → after ≡ Some new → from ≡ Some other → from' ≡ Some other
+    → goes other old ending new → status ≡ status_of ending
+    → OnTwoHandles goes before from status after from'
+both_called {A} {B} goes before after from from' status old new other ending was is held still went said =
+    subst (λ (o : Option A). OnTwoHandles goes o from status after from') (sym was) (subst (λ (o : Option A). OnTwoHandles goes (Some old) from status o from') (sym is)
+    (subst (λ (o : Option B). OnTwoHandles goes (Some old) o status (Some new) from') (sym held) (ending, went, said, still)))
 
 -- a bool of C that says whether one thing holds says it of another that holds where that does
 pub bool_same : {P Q : Type 0} (n : ℕ) → IsBool n P → P ↔ Q → IsBool n Q

@@ -1,12 +1,17 @@
--- Lists of which a set is made.
-use Rattle.std.proofs.Common.{◌≡◌, ℕ, ℤ, List, length, sym, subst, ap, ◌∙◌, true, eqb, Decides, BTreeSet, btree_set_len, Ordering, Equal, is_eq, nat_cmp, int_cmp}
+-- Lists of which a set is made, and the length of a list of pages.
+use Rattle.std.proofs.Common.{◌≡◌, ◌≤◌, ℕ, ℤ, List, arith, length, sym, subst, ap, ◌∙◌, true, eqb, Decides, BTreeSet, btree_set_len, Ordering, Equal, is_eq, nat_cmp, int_cmp}
 use Rattle.std.proofs.lemmas.Bool.{eqb-true, eq-eqb}
 use Rattle.std.proofs.lemmas.Cmp.{eq_by_cmp_equiv, int_cmp_total, int_ranked, nat_cmp_total, ranked, tied_itself}
 use Rattle.std.proofs.lemmas.Map.Made.{AllPairs-from_IsDistinct, IsDistinct-from_AllPairs, IsDistinct-from_count, distinct_count-from_IsDistinct}
 use Rattle.std.proofs.lemmas.Map.Views.{btree_set_len-from_list}
+use Rattle.std.proofs.lemmas.List.{length-take}
 use Rattle.std.specs.BTreeSet.{IsFromIterResult}
 use Rattle.std.specs.Cmp.{Equal-is, IsTotalOrder}
-use Rattle.std.specs.Ordering.{eq_by_cmp}
+use Rattle.std.specs.Ordering.{eq_by_cmp, flip_args}
+use Rattle.warm_stamps.specs.Distinct.{distinct}
+use Rattle.warm_history.specs.Histories.{pages}
+use Rattle.warm_history.specs.ReferenceSets.{ReferenceSet}
+use Rattle.warm_rank.specs.Ranking.{eviction_cmp, hottest_pages}
 use Rattle.warm_c.specs.Handles.{AllDiffer}
 
 -- a set has as many items as the list that it is made of exactly where no two are equal
@@ -40,3 +45,7 @@ numbers_decide = set_decides nat_cmp_total same_number
 pub integers_decide : (xs : List ℤ) (made : BTreeSet ℤ) → IsFromIterResult int_cmp xs made
     → Decides (eqb (btree_set_len made) (length xs)) (AllDiffer xs)
 integers_decide = set_decides int_cmp_total same_integer
+
+-- the hottest pages are no more than were asked for
+pub few_listed : (S : ReferenceSet) (n : ℕ) → length (hottest_pages S n) ≤ n
+few_listed S n = omega (arith, length-take n (distinct (flip_args (eviction_cmp S)) (pages S)))

@@ -173,7 +173,7 @@ SaveRefused (Dump why) = StopsWriting why
 SaveRefused why = ⊥
 
 -- What the handle holds is as it was. Of what a file then holds nothing can be said.
-abbrev pub Saves : OpenNode → Ending → OpenNode → Type 0
+abbrev pub Saves : {A : Type 0} → A → Ending → A → Type 0
 Saves old (Ok given) new = new ≡ old
 Saves old (Err why) new = SaveRefused why × (new ≡ old)
 

@@ -19,10 +19,9 @@ use Rattle.warm_c.specs.FdParts.{fd_opened}
 use Rattle.warm_c.specs.Statuses.{code_of, status_of}
 use Rattle.warm_c.specs.Calls.{Ending}
 
--- A closed handle says that it is closed, and stays so. An open one stays open; its node goes so,
--- and the status is that of the ending.
-abbrev pub OnHandle : (OpenNode → Ending → OpenNode → Type 0) → Option OpenNode → ℤ
-    → Option OpenNode → Type 0
+-- A closed handle says that it is closed, and stays so. An open one stays open; what it holds goes
+-- so, and the status is that of the ending.
+abbrev pub OnHandle : {A : Type 0} → (A → Ending → A → Type 0) → Option A → ℤ → Option A → Type 0
 OnHandle goes None status new = (status ≡ pos (code_of Closed)) × (new ≡ None)
 OnHandle goes (Some old) status (Some new) = (ending : Ending) × goes old ending new
     × (status ≡ status_of ending)

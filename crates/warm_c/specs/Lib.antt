@@ -12,6 +12,7 @@ pub mod Lending
 pub mod Owning
 pub mod PartCalls
 pub mod Parts
+pub mod Peers
 pub mod Since
 pub mod Statuses
 pub mod Values

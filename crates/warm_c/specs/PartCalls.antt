@@ -13,11 +13,12 @@ use Rattle.warm_gossip.specs.declared.fault.NodeFault.TheVariants.{Memory}
 use Rattle.warm_gossip.specs.Clauses.{Joins}
 use Rattle.warm_shards.specs.Digests.{FillsShard}
 use Rattle.warm_c.specs.declared.open_node.OpenNode.{OpenNode}
+use Rattle.warm_c.specs.declared.open_peer.OpenPeer.{OpenPeer}
 use Rattle.warm_c.specs.declared.status.Refusal.TheVariants.{Closed, Frame, Node}
 use Rattle.warm_c.specs.declared.values.PinnedSlot.{PinnedSlot}
 use Rattle.warm_c.specs.declared.values.WarmPage.{WarmPage}
 use Rattle.warm_c.specs.Calls.{Ending, Pins, Replies, SameDevices, SameOpen}
-use Rattle.warm_shards.specs.Parts.{part_of_message}
+use Rattle.warm_shards.specs.Parts.{part_of_history, part_of_message}
 use Rattle.warm_c.specs.Parts.{OfPart}
 use Rattle.warm_c.specs.Statuses.{code_of, status_of}
 
@@ -77,22 +78,28 @@ GivesDigests shards shard before after old ending new =
     OfPart shards shard ending ((after ≡ before) × (new ≡ old))
     (GivesThose shards shard before after old ending new)
 
--- Joining what another node holds
+-- Joining a history
 
--- The node has joined the history of the other node; or an allocation failed, and nothing has
--- changed that a caller sees. Either way its devices, and the bytes and the dirty flag of each
--- frame, are as they were.
-abbrev pub JoinsNode : OpenNode → OpenNode → Ending → OpenNode → Type 0
-JoinsNode other old (Ok given) new =
-    Joins old.node other.node.history new.node × KeepsBytes old.node.pool new.node.pool
-    × SameDevices old new
-JoinsNode other old (Err (Node Memory)) new = SameOpen old new
-JoinsNode other old (Err why) new = ⊥
+-- The node has joined what the history says of the pages of the shard; or an allocation failed, and
+-- nothing has changed that a caller sees. Either way its devices, and the bytes and the dirty flag
+-- of each frame, are as they were.
+abbrev pub JoinsThose : ℕ → ℕ → HistoryView → OpenNode → Ending → OpenNode → Type 0
+JoinsThose shards shard h old (Ok given) new =
+    Joins old.node (part_of_history shards shard h) new.node
+    × KeepsBytes old.node.pool new.node.pool × SameDevices old new
+JoinsThose shards shard h old (Err (Node Memory)) new = SameOpen old new
+JoinsThose shards shard h old (Err why) new = ⊥
+
+-- the same for one shard of many, of a peer's history; numbers that are no shard's are refused
+abbrev pub JoinsPart : ℕ → ℕ → OpenPeer → OpenNode → Ending → OpenNode → Type 0
+JoinsPart shards shard other old ending new =
+    OfPart shards shard ending (new ≡ old)
+    (JoinsThose shards shard other.peer.history old ending new)
 
 -- A call on two handles. Where one of them is closed, it says so, and both are as they were. Else
--- the first stays open, and its node goes so beside what the second holds, which is as it was.
-abbrev pub OnTwoHandles : (OpenNode → OpenNode → Ending → OpenNode → Type 0) → Option OpenNode
-    → Option OpenNode → ℤ → Option OpenNode → Option OpenNode → Type 0
+-- the first stays open, and what it holds goes so beside what the second holds, which is as it was.
+abbrev pub OnTwoHandles : {A B : Type 0} → (B → A → Ending → A → Type 0) → Option A → Option B → ℤ
+    → Option A → Option B → Type 0
 OnTwoHandles goes None from status into' from' =
     (status ≡ pos (code_of Closed)) × (into' ≡ None) × (from' ≡ from)
 OnTwoHandles goes (Some old) None status into' from' =

@@ -1,9 +1,12 @@
--- What concerns one shard of many: of a page and of a batch.
-use Rattle.std.specs.Prelude.{◌≡◌, ◌↔◌, ◌⊎◌, ℕ, ℤ, ◌<◌, ◌≤◌, List, map, filter, nat_eq, Err}
-use Rattle.std.specs.Prelude.{Contains}
+-- What concerns one shard of many: of a page, of a batch and of entries.
+use Rattle.std.specs.Prelude.{◌≡◌, ◌↔◌, ◌⊎◌, ℕ, ℤ, ◌%◌, ◌<◌, ◌≤◌, List, map, filter, nat_eq}
+use Rattle.std.specs.Prelude.{Contains, Err}
 use Rattle.std.specs.Int.{bit_at}
+use Rattle.std.specs.List.{flat_map, range_with_len}
 use Rattle.warm_stamps.specs.declared.PageId.{PageId}
+use Rattle.warm_stamps.specs.declared.TheConstants.{BUCKETS}
 use Rattle.warm_history.specs.declared.hist.Entry.{Entry}
+use Rattle.warm_history.specs.Carried.{bucket_entries}
 use Rattle.warm_shards.specs.Shards.{IsShardCount, shard_of}
 use Rattle.warm_c.specs.declared.status.Refusal.{Refusal}
 use Rattle.warm_c.specs.declared.status.Refusal.TheVariants.{BadShards, NoShard}
@@ -49,6 +52,12 @@ shards_of shards pages = map (shard_of shards) pages
 -- bit i of the number is 1 exactly where i is one of these
 abbrev pub HasBits : List ℕ → ℕ → Type 0
 HasBits numbers bits = (i : ℕ) → (bit_at bits i ≡ 1) ↔ Contains numbers i
+
+-- the entries of pages of the shard, bucket by bucket
+abbrev pub shard_buckets : ℕ → ℕ → List Entry → List Entry
+shard_buckets shards shard es =
+    flat_map (λ b. bucket_entries b es)
+    (filter (λ b. nat_eq (b % shards) shard) (range_with_len 0 BUCKETS))
 
 -- the pages of entries
 abbrev pub entry_pages : List Entry → List PageId

@@ -34,7 +34,7 @@ fn references_of(alloc: Global, batch: &[WarmReference]) -> Result<Vec<Reference
 }
 
 // The pages, as C knows them.
-fn c_pages(alloc: Global, pages: &[PageId]) -> Result<Vec<WarmPage>, AllocError>
+pub(crate) fn c_pages(alloc: Global, pages: &[PageId]) -> Result<Vec<WarmPage>, AllocError>
     ensures { IfOk result (λ made. made.items ≡ map c_page pages.now) }
 {
     let mut listed = Vec::with_capacity(alloc, pages.len())?;
@@ -45,7 +45,7 @@ fn c_pages(alloc: Global, pages: &[PageId]) -> Result<Vec<WarmPage>, AllocError>
 }
 
 // Puts pages at the start of a buffer.
-fn put_pages(pages: &[WarmPage], into: &mut [WarmPage])
+pub(crate) fn put_pages(pages: &[WarmPage], into: &mut [WarmPage])
     requires { length pages.now ≤ length into.old }
     ensures { into.new ≡ with_start pages.now into.old }
 {

@@ -1,11 +1,12 @@
-//! The calls on an open handle that concern one shard of many, or join what another handle holds.
-ghost use Rattle.warm_c.specs.PartCalls.{GivesDigests, JoinsNode, PinsAndLends, ReceivesPart};
+//! The calls on an open handle that concern one shard of many.
+ghost use Rattle.warm_c.specs.PartCalls.{GivesDigests, JoinsPart, PinsAndLends, ReceivesPart};
 ghost use Rattle.warm_c.specs.PartCalls.{gathered};
 
 use crate::frame_parts::NodeTable;
 use crate::lending::address_of;
 use crate::open_node::OpenNode;
-use crate::shard_parts::check_part;
+use crate::open_peer::OpenPeer;
+use crate::shard_parts::{check_part, entries_of_shard};
 use crate::status::Refusal;
 use crate::values::{PinnedSlot, WarmPage};
 use std::alloc::Global;
@@ -90,14 +91,31 @@ impl OpenNode {
         Ok(())
     }
 
-    /// Calls [`warm_gossip::Node::join`] with the history of another node.
+    /// Calls [`warm_gossip::Node::join_entries`] with what the history of a peer has of pages of the
+    /// shard, which is copied, and its horizon; of one shard alone [`warm_gossip::Node::join`] with
+    /// the history.
     ///
     /// # Errors
-    /// `Node`, with `Memory`: an allocation failed; nothing has changed that a caller sees.
-    pub fn gather(&mut self, other: &OpenNode) -> Result<(), Refusal>
-        ensures { JoinsNode other.now self.old result self.new }
+    /// In this order. Nothing has changed that a caller sees.
+    /// - `BadShards`, `NoShard`: there cannot be this many shards, or there is none of this number.
+    /// - `Node`, with `Memory`: an allocation failed.
+    pub fn join_part(
+        &mut self,
+        alloc: Global,
+        shards: usize,
+        shard: usize,
+        other: &OpenPeer,
+    ) -> Result<(), Refusal>
+        ensures { JoinsPart shards shard other.now self.old result self.new }
     {
-        self.node.join(other.node.history())?;
+        check_part(shards, shard)?;
+        let history = other.peer.history();
+        if shards == 1 {
+            self.node.join(history)?;
+            return Ok(());
+        }
+        let part = entries_of_shard(alloc, history, shards, shard)?;
+        self.node.join_entries(history.horizon(), &part)?;
         Ok(())
     }
 }

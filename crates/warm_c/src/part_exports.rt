@@ -5,7 +5,7 @@ ghost use Rattle.warm_c.specs.Devices.{SaysMayStand};
 ghost use Rattle.warm_c.specs.Engine.{SaysMayForget};
 ghost use Rattle.warm_c.specs.FrameParts.{FindsDiffering, MakesFrame, ReadsFrame};
 ghost use Rattle.warm_c.specs.Handles.{OnHandle};
-ghost use Rattle.warm_c.specs.PartCalls.{GivesDigests, JoinsNode, OnTwoHandles, PinsAndLends};
+ghost use Rattle.warm_c.specs.PartCalls.{GivesDigests, JoinsPart, OnTwoHandles, PinsAndLends};
 ghost use Rattle.warm_c.specs.PartCalls.{ReceivesPart, gathered};
 ghost use Rattle.warm_c.specs.Parts.{WithoutHandle};
 
@@ -14,6 +14,7 @@ use crate::frame_parts::{
     NodeFrame, NodeTable, find_differing, offer_frame, read_frame, want_frame,
 };
 use crate::handle::Handle;
+use crate::peer_handle::PeerHandle;
 use crate::status::status_of;
 use crate::values::{PinnedSlot, WarmDevice, WarmPage};
 use std::alloc::Global;
@@ -186,17 +187,25 @@ pub extern "C" fn node_want_frame(
     status_of(want_frame(alloc, replica, horizon, buckets, frame, len))
 }
 
-/// Joins the history of the second handle's node to that of the first's, all or nothing. The second
-/// handle is unchanged.
+/// Joins what a history alone has of pages of the shard to the history of the shard's node, all or
+/// nothing; the horizon with it. The history's handle is unchanged.
 ///
 /// # Errors
-/// Nothing has changed that a caller sees.
+/// In this order. Nothing has changed that a caller sees.
 /// - 64: one of the handles is closed.
+/// - 72: there cannot be this many shards.
+/// - 76: there is no shard of this number.
 /// - 1: an allocation failed.
 #[unsafe(no_mangle)]
-pub extern "C" fn node_gather(alloc: Global, into: &mut Handle, from: &mut Handle) -> i32
-    ensures { OnTwoHandles JoinsNode into.old.held.node from.old.held.node result
-        into.new.held.node from.new.held.node }
+pub extern "C" fn node_join_part(
+    alloc: Global,
+    into: &mut Handle,
+    shards: usize,
+    shard: usize,
+    from: &mut PeerHandle,
+) -> i32
+    ensures { OnTwoHandles (JoinsPart shards shard) into.old.held.node from.old.held.peer result
+        into.new.held.node from.new.held.peer }
 {
     let Some(mut node) = into.take(alloc) else {
         return closed();
@@ -205,8 +214,8 @@ pub extern "C" fn node_gather(alloc: Global, into: &mut Handle, from: &mut Handl
         *into = Handle::of(node);
         return closed();
     };
-    let done = node.gather(&other);
-    *from = Handle::of(other);
+    let done = node.join_part(alloc, shards, shard, &other);
+    *from = PeerHandle::of(other);
     put_back(into, node, done)
 }
 
