@@ -1,13 +1,12 @@
 #!/usr/bin/env python3
-"""Measures warmplay against a plain Rust program for the same job, and prints the table of docs/PERFORMANCE.md.
+"""Measures warmplay against a plain Rust program for the same job.
 
 usage: measure.py [CASE..]      the cases are: refs zipf pins steady orders longline gossip warm memory window growth frames replicas
                                 (default: all)
 
-It needs the proved program (`rt run` in crates/warmplay leaves it as crates/warmplay/out/warmplay; the variable WARMPLAY names another)
-and `rustc`. Every case runs all programs in turn, on one machine, and takes the least user time of five runs or more; their answers must
-be equal. For a case with a set-up only the events after it count, by the processor time of the program, including its system
-time. Each row gives the case, the cost of warmplay and of plain Rust, and the ratio plain Rust / warmplay: 1 or more is good.
+It needs the proved program `warmplay` and `rustc`. Every case runs all programs in turn, and takes the user time of five runs or more; their
+answers must be equal. For a case with a set-up only the events after it count, by the processor time of the program, including its system
+time. SMALL=N divides the loads by N, for a try of this script. It prints the lines of bench/runs.py.
 """
 
 import array
@@ -24,17 +23,19 @@ import time
 from pathlib import Path
 from typing import Callable, Iterable, NamedTuple
 
+from runs import ROOT, Runs, compiled, program
+
 HERE = Path(__file__).resolve().parent
-ROOT = HERE.parent
-WARMPLAY = Path(os.environ.get("WARMPLAY", ROOT / "crates/warmplay/out/warmplay"))
 ORDERS = ROOT / "examples/sqlite-orders"
 RUNS = 5
+SMALL = int(os.environ.get("SMALL", "1"))
 REPLICAS = 64
 WINDOW, EVERY = 100_000, 10_000
 SIZES = [1_000, 10_000, 100_000, 1_000_000]
 POOLS = [4_096, 8_192, 16_384, 32_768, 65_536]
 RINGS = [2, 4, 8, 16, 32, 64]
-OURS, PLAIN = "warmplay", "plain"
+OURS, PLAIN = "ours", "plain Rust"
+PER_SECOND = {"s": 1, "ns": 1e9}
 
 
 class Setup(NamedTuple):
@@ -103,8 +104,7 @@ class Bench:
     def __init__(self, folder: Path) -> None:
         self.folder = folder
         self.setup = Setup()
-        for name in ("plain", "loads"):
-            subprocess.run(["rustc", "-O", "--edition", "2024", "-o", folder / name, HERE / f"{name}.rs"], check=True)
+        self.plain, self.loads = (compiled(HERE / f"{name}.rs", folder) for name in ("plain", "loads"))
 
     @property
     def programs(self) -> dict[str, list[str]]:
@@ -112,8 +112,8 @@ class Bench:
         setup = self.folder / "setup.toml"
         setup.write_text(self.setup.toml(), encoding="ascii")
         return {
-            OURS: [str(WARMPLAY), "play", "--setup", str(setup)],
-            PLAIN: [str(self.folder / "plain"), *map(str, self.setup)],
+            OURS: [str(program("warmplay")), "play", "--setup", str(setup)],
+            PLAIN: [str(self.plain), *map(str, self.setup)],
         }
 
     def write(self, name: str, lines: Iterable[str]) -> Path:
@@ -126,50 +126,27 @@ class Bench:
         """A schedule that loads.rs prints."""
         path = self.folder / "load"
         with open(path, "wb") as out:
-            subprocess.run([self.folder / "loads", *map(str, words)], stdout=out, check=True)
+            subprocess.run([self.loads, *map(str, words)], stdout=out, check=True)
         return path
 
-    def least(self, seconds: Callable[[list[str], Path], float], runs: int) -> dict[str, float]:
-        """The least time of each program, which take turns; their answers must be equal."""
-        least: dict[str, float] = {}
+    def measure(self, case: str, unit: str, each: float, seconds: Callable[[list[str], Path], float], runs: int = RUNS) -> None:
+        """The time of each program, which take turns, for each of so many things; their answers must be equal."""
+        took = Runs()
         programs = self.programs
         for _ in range(runs):
-            for name, program in programs.items():
-                took = seconds(program, self.folder / f"{name}.answer")
-                least[name] = min(least.get(name, took), took)
-        subprocess.run(["cmp", self.folder / f"{OURS}.answer", self.folder / f"{PLAIN}.answer"], check=True)
-        return least
+            for name, command in programs.items():
+                spent = seconds(command, self.folder / f"{name}.answer")
+                took.add(case, name, unit, spent / each * PER_SECOND[unit])
+        subprocess.run(["cmp", *(self.folder / f"{name}.answer" for name in programs)], check=True)
+        took.print()
 
-    def best(self, schedule: Path) -> dict[str, float]:
-        return self.least(lambda program, answer: user_seconds(program, schedule, answer), RUNS)
+    def whole(self, case: str, schedule: Path) -> None:
+        self.measure(case, "s", 1, lambda command, answer: user_seconds(command, schedule, answer))
 
-    def added(self, setup: list[str], events: list[str], runs: int = RUNS) -> dict[str, float]:
+    def later(self, case: str, unit: str, each: float, setup: list[str], events: list[str], runs: int = RUNS) -> None:
         """The cost of the events after the set-up."""
         before, after = self.write("setup", setup), self.write("events", events)
-        return self.least(lambda program, answer: later_seconds(program, before, after, answer), runs)
-
-
-def row(what: str, took: dict[str, float], unit: str, digits: int = 0, note: str = "") -> None:
-    """The cost of each program, and the ratio of the plain one's to ours."""
-    ours, plain = took[OURS], took[PLAIN]
-    ratio = f"{plain / ours:.2f}" if ours > 0 else "too short"
-    print(f"| {what} | {ours:,.{digits}f} {unit} | {plain:,.{digits}f} {unit} | {ratio} | {note} |", flush=True)
-
-
-def whole(bench: Bench, what: str, schedule: Path, note: str = "") -> None:
-    seconds = bench.best(schedule)
-    speed = f"{schedule.stat().st_size / 1e6 / max(seconds[OURS], 0.001):.0f} MB/s"
-    row(what, seconds, "s", 3, note or speed)
-
-
-def each(bench: Bench, what: str, setup: list[str], events: list[str]) -> None:
-    seconds = bench.added(setup, events)
-    row(what, seconds, "s", 3, f"{seconds[OURS] / len(events) * 1e3:.3f} ms an event, {len(events)} events")
-
-
-def times(took: dict[str, float], first: dict[str, float], what: str) -> str:
-    """The ratio to the first."""
-    return f"{took[OURS] / first[OURS]:.1f} times that of {what}, plain Rust {took[PLAIN] / first[PLAIN]:.1f}"
+        self.measure(case, unit, each, lambda command, answer: later_seconds(command, before, after, answer), runs)
 
 
 def reached(replica: int, pages: Iterable[int], start: int) -> list[str]:
@@ -187,30 +164,30 @@ def scattered(count: int, start: int = 0) -> list[int]:
 
 def refs(bench: Bench) -> None:
     draw = random.Random(1)
-    lines = (f"ref 1 {1 + n % 2} 0:{draw.randrange(1000)} {n}" for n in range(2_000_000))
-    whole(bench, "2,000,000 `ref` lines over 1,000 pages", bench.write("refs", lines))
+    lines = (f"ref 1 {1 + n % 2} 0:{draw.randrange(1000)} {n}" for n in range(2_000_000 // SMALL))
+    bench.whole("2,000,000 references, 1,000 pages", bench.write("refs", lines))
 
 
 def zipf(bench: Bench) -> None:
     draw = random.Random(3)
     pages = scattered(1_000_000)
     # 1,000,000 to a power drawn evenly from 0 to 1: page r occurs in proportion to 1 / r
-    ranks = (int(1_000_000 ** draw.random()) - 1 for _ in range(2_000_000))
+    ranks = (int(1_000_000 ** draw.random()) - 1 for _ in range(2_000_000 // SMALL))
     lines = (f"ref 1 {1 + n % 2} 0:{pages[rank]} {n}" for n, rank in enumerate(ranks))
-    whole(bench, "2,000,000 `ref` lines, Zipf over 1,000,000 pages", bench.write("zipf", lines))
+    bench.whole("2,000,000 references, Zipf over 1,000,000 pages", bench.write("zipf", lines))
 
 
 def pins(bench: Bench) -> None:
     """Three accesses of ten are misses: once all frames hold pages, each miss evicts a victim, and writes it back where it is dirty."""
     bench.setup = Setup(1, 4_096, 100_000)
-    what = "1,000,000 `ref`, `pin` and `unpin`, with 250,000 `put` and `get`, Zipf over 100,000 pages, 4,096 frames"
-    whole(bench, what, bench.load("pins", 1_000_000, bench.setup.frames, bench.setup.pages))
+    case = "1,000,000 references and pins, with 250,000 writes and reads, Zipf over 100,000 pages, 4,096 frames"
+    bench.whole(case, bench.load("pins", 1_000_000 // SMALL, bench.setup.frames, bench.setup.pages))
 
 
 def steady(bench: Bench) -> None:
     bench.setup = Setup(8)
-    what = "500,000 `ref`, Zipf over 100,000 pages, by 8 replicas, two of which gossip after each 4,000"
-    whole(bench, what, bench.load("steady", bench.setup.replicas, 500, 1_000, 4, 100_000))
+    case = "500,000 references, Zipf over 100,000 pages, by 8 replicas, two of which gossip after each 4,000"
+    bench.whole(case, bench.load("steady", bench.setup.replicas, max(8, 500 // SMALL), 1_000, 4, 100_000))
 
 
 def orders(bench: Bench) -> None:
@@ -218,42 +195,45 @@ def orders(bench: Bench) -> None:
     schedule = bench.folder / "orders"
     with open(schedule, "wb") as out:
         subprocess.run(script, stdout=out, check=True)
-    whole(bench, "the trace of sqlite-orders", schedule)
+    bench.whole("the trace of sqlite-orders", schedule)
 
 
 def longline(bench: Bench) -> None:
     schedule = bench.folder / "longline"
     with open(schedule, "wb") as out:
-        out.write(b"a" * 100_000_000 + b"\nref 1 1 0:1 10\n")
-    whole(bench, "one line of 100 MB", schedule)
+        out.write(b"a" * (100_000_000 // SMALL) + b"\nref 1 1 0:1 10\n")
+    bench.whole("one line of 100 MB", schedule)
 
 
 def gossip(bench: Bench) -> None:
+    pages = 20_000 // SMALL
     setup: list[str] = []
     for replica in range(1, REPLICAS + 1):
-        setup += reached(replica, scattered(20_000, 20_000 * (replica - 1)), 1)
+        setup += reached(replica, scattered(pages, pages * (replica - 1)), 1)
     # each replica sends its 64 buckets in turn: the first 64 of its 200 frames bring new pages to the next replica, the others known ones
     sends = [f"send {1 + n % REPLICAS} {n // REPLICAS % 64}" for n in range(200 * REPLICAS)]
     delivers = [f"deliver {1 + (n + 1) % REPLICAS} {n + 1}" for n in range(200 * REPLICAS)]
-    each(bench, "64 replicas of 20,000 pages, 200 sends each", setup, sends)
-    each(bench, "their deliveries", setup + sends, delivers)
-    each(bench, "the same once more, all known", setup + sends + delivers, delivers)
+    of = "64 replicas of 20,000 pages"
+    bench.later(f"{of}, 200 sends each", "s", 1, setup, sends)
+    bench.later(f"{of}, 200 deliveries each, a third new", "s", 1, setup + sends, delivers)
+    bench.later(f"{of}, 200 deliveries each, all known", "s", 1, setup + sends + delivers, delivers)
 
 
 def warm(bench: Bench) -> None:
     draw = random.Random(2)
-    pages = list(range(500_000))
-    twice = sorted(draw.sample(pages, 250_000))
+    pages = list(range(500_000 // SMALL))
+    twice = sorted(draw.sample(pages, len(pages) // 2))
     setup = reached(1, pages, 1) + reached(1, twice, 1_000_000)
-    each(bench, "`warm 1 65536` over 500,000 pages", setup, ["warm 1 65536"] * 5)
+    bench.later("five lists of 65,536 of 500,000 pages", "s", 1, setup, ["warm 1 65536"] * 5)
 
 
 def memory(bench: Bench) -> None:
-    nothing = bench.write("nothing", [])
-    schedule = bench.write("pages", reached(1, scattered(1_000_000), 1))
-    programs = bench.programs.items()
-    held = {name: (peak_kb(program, schedule) - peak_kb(program, nothing)) * 1024 / 1e6 for name, program in programs}
-    row("memory a page, of 1,000,000", held, "bytes", 1)
+    pages = 1_000_000 // SMALL
+    nothing, schedule = bench.write("nothing", []), bench.write("pages", reached(1, scattered(pages), 1))
+    took = Runs()
+    for name, command in bench.programs.items():
+        took.add("memory a page, of 1,000,000", name, "bytes", (peak_kb(command, schedule) - peak_kb(command, nothing)) * 1024 / pages)
+    took.print()
 
 
 def moving(pages: int, window: int, every: int) -> Iterable[str]:
@@ -267,68 +247,54 @@ def moving(pages: int, window: int, every: int) -> Iterable[str]:
 def window(bench: Bench) -> None:
     """The memory of a replica that references 10,000,000 pages through a window of 100,000, beside one with 100,000 pages."""
     nothing, seen = bench.write("nothing", []), bench.write("seen", moving(WINDOW, WINDOW, EVERY))
-    wide = bench.write("moving", moving(100 * WINDOW, WINDOW, EVERY))
-    kb = {name: [peak_kb(program, schedule) for schedule in (nothing, seen, wide)] for name, program in bench.programs.items()}
-    few, many = ({name: (peaks[at] - peaks[0]) * 1024 / 1e6 for name, peaks in kb.items()} for at in (1, 2))
-    row(f"memory of a replica of {WINDOW:,} pages", few, "MB", 2)
-    note = times(many, few, f"{WINDOW:,} pages")
-    row(f"memory of a replica of {100 * WINDOW:,} pages through a window of {WINDOW:,}", many, "MB", 2, note)
+    wide = bench.write("moving", moving(100 * WINDOW // SMALL, WINDOW, EVERY))
+    took = Runs()
+    for name, command in bench.programs.items():
+        held = {at: peak_kb(command, at) for at in (nothing, seen, wide)}
+        for case, schedule in ((f"memory of {WINDOW:,} pages", seen), (f"memory of {100 * WINDOW:,} pages through a window of {WINDOW:,}", wide)):
+            took.add(case, name, "MB", (held[schedule] - held[nothing]) * 1024 / 1e6)
+    took.print()
 
 
 def growth_loads(size: int) -> Iterable[tuple[str, list[str], list[str], int]]:
     """The case, the set-up, the events, and their pages: in as many replicas as hold a million pages, or all."""
     replicas = range(1, min(REPLICAS, 1_000_000 // size) + 1)
-    rounds = max(1, 1_000_000 // (size * len(replicas)))
+    rounds = max(1, 1_000_000 // SMALL // (size * len(replicas)))
     new = [line for i in replicas for line in reached(i, scattered(size), 1)]
     known = [line for n in range(rounds) for i in replicas for line in reached(i, scattered(size), 2 + n)]
     listed = [f"warm {i} {size // 8}" for _ in range(rounds) for i in replicas]
     shown = [f"show {i}" for _ in range(rounds) for i in replicas]
     pages = size * len(replicas)
-    yield "a `ref` line of a new page", [], new, pages
-    yield "a `ref` line of a known page", new, known, pages * rounds
-    yield "`warm` of an eighth, a page", new, listed, pages * rounds
-    yield "`show`, a page", new, shown, pages * rounds
+    yield "a reference to a new page", [], new, pages
+    yield "a reference to a known page", new, known, pages * rounds
+    yield "a list of an eighth, a page", new, listed, pages * rounds
+    yield "a shown history, a page", new, shown, pages * rounds
 
 
 def growth(bench: Bench) -> None:
-    """Nanoseconds a page."""
-    loads: dict[str, list[dict[str, float]]] = {}
     for size in SIZES:
         for what, setup, events, count in growth_loads(size):
-            seconds = bench.added(setup, events)
-            loads.setdefault(what, []).append({name: it / count * 1e9 for name, it in seconds.items()})
-    for what, took in loads.items():
-        for size, nanos in zip(SIZES, took):
-            row(f"{what}, of {size:,}", nanos, "ns", 0, times(nanos, took[0], f"{SIZES[0]:,}"))
+            bench.later(f"{what}, of {size:,}", "ns", count, setup, events)
 
 
 def frames(bench: Bench) -> None:
     """A complete warm-up. That of 65,536 frames may take 20 times the time of that of 4,096."""
-    setup = reached(1, scattered(1_000_000), 1)
-    first = None
+    setup = reached(1, scattered(1_000_000 // SMALL), 1)
     for count in POOLS:
         bench.setup = Setup(1, count, 1_048_576)
-        seconds = bench.added(setup, ["warmstep 1"] * count)
-        first = first or seconds
-        nanos = f"{seconds[OURS] / count * 1e9:.0f} ns a step, plain Rust {seconds[PLAIN] / count * 1e9:.0f}"
-        note = f"{nanos}; {times(seconds, first, f'{POOLS[0]:,}')}"
-        row(f"a whole warm-up of {count:,} frames, of 1,000,000 pages", seconds, "s", 3, note)
+        bench.later(f"a warm-up of {count:,} frames, of 1,000,000 pages, a step", "ns", count, setup, ["warmstep 1"] * count)
 
 
 def replicas(bench: Bench) -> None:
-    """Nanoseconds per delivered entry, digests and requests included. In a ring of 2 each entry is delivered twice, the second time known."""
-    first = None
+    """Digests and requests included. In a ring of 2 each entry is delivered twice, the second time known."""
     for count in RINGS:
         bench.setup = Setup(count)
-        lines = bench.load("ring", count, 10_000).read_text(encoding="ascii").splitlines()
+        lines = bench.load("ring", count, 10_000 // SMALL).read_text(encoding="ascii").splitlines()
         at = next(n for n, line in enumerate(lines) if line.startswith("#"))
         entries = int(lines[at].removeprefix("# "))
         # a short schedule needs more runs, to separate its time from the noise of the machine
-        seconds = bench.added(lines[:at], lines[at + 1 :], max(RUNS, RINGS[-1] // count))
-        nanos = {name: it / entries * 1e9 for name, it in seconds.items()}
-        first = first or nanos
-        what = f"an entry delivered, {count} replicas of 10,000 pages in a ring"
-        row(what, nanos, "ns", 0, f"{entries:,} entries; {times(nanos, first, f'{RINGS[0]} replicas')}")
+        runs = max(RUNS, RINGS[-1] // count)
+        bench.later(f"an entry delivered, {count} replicas of 10,000 pages in a ring", "ns", entries, lines[:at], lines[at + 1 :], runs)
 
 
 CASES: dict[str, Callable[[Bench], None]] = {
@@ -349,13 +315,9 @@ CASES: dict[str, Callable[[Bench], None]] = {
 
 
 def main() -> None:
-    if not WARMPLAY.exists():
-        sys.exit("build the program first: cd crates/warmplay && rt run < stdin")
-    names = sys.argv[1:] or list(CASES)
     with tempfile.TemporaryDirectory() as folder:
         bench = Bench(Path(folder))
-        print("| what | warmplay | plain Rust | plain time by ours | |\n|---|---|---|---|---|")
-        for name in names:
+        for name in sys.argv[1:] or list(CASES):
             bench.setup = Setup()
             CASES[name](bench)
 

@@ -1,22 +1,23 @@
 #!/usr/bin/env python3
-"""Measures a hit (pin, read eight bytes, unpin) from C against the same from Rattle, and prints the table of docs/PERFORMANCE.md.
+"""Measures a hit (pin, read eight bytes, unpin) from C against the same from Rattle.
 
-usage: measure.py LIBRARY       LIBRARY is the folder that scripts/c-library made
+usage: measure.py LIBRARY [HITS]      LIBRARY is the folder that scripts/c-library made; HITS of a run, 5,000,000 by default
 
-It needs the proved program (`rt run` in crates/bench_threads leaves it as crates/bench_threads/out/bench_threads; the variable BENCHES names another) and a
-C compiler (cc, or what CC names). Each round is in a drawn order. All programs must print the same checksum.
+It needs the proved program `bench_threads` and a C compiler (cc, or what CC names). Each of 15 rounds is in a drawn order. All programs must
+print the same checksum. It prints the lines of bench/runs.py.
 """
 
 import os
 import random
-import statistics
 import subprocess
 import sys
 import tempfile
 from pathlib import Path
 
 HERE = Path(__file__).resolve().parent
-BENCHES = Path(os.environ.get("BENCHES", HERE.parent.parent / "crates/bench_threads/out/bench_threads"))
+sys.path.insert(0, str(HERE.parent))
+from runs import Runs, program  # noqa: E402
+
 ROUNDS = 15
 HITS = 5_000_000
 POOLS = [1_024, 65_536]
@@ -37,31 +38,26 @@ def one_run(command: list[str | Path]) -> tuple[str, int]:
     return checksum, int(spent.split()[0])
 
 
-def measured(commands: dict[str, list[str | Path]], frames: int) -> dict[str, list[float]]:
-    """The nanoseconds of a hit, of each run."""
-    spent: dict[str, list[float]] = {name: [] for name in commands}
+def measure(commands: dict[str, list[str | Path]], frames: int, hits: int) -> None:
+    took = Runs()
     checksums = set()
     for _ in range(ROUNDS):
         for name in random.sample(list(commands), len(commands)):
-            checksum, nanoseconds = one_run([*commands[name], str(frames), str(HITS)])
+            checksum, nanoseconds = one_run([*commands[name], str(frames), str(hits)])
             checksums.add(checksum)
-            spent[name].append(nanoseconds / HITS)
+            took.add(f"a hit, {frames:,} frames", name, "ns", nanoseconds / hits)
     assert len(checksums) == 1, checksums
-    return spent
+    took.print()
 
 
 def main() -> None:
-    if len(sys.argv) != 2:
+    if len(sys.argv) not in (2, 3):
         sys.exit(__doc__)
+    hits = int(sys.argv[2]) if len(sys.argv) > 2 else HITS
     with tempfile.TemporaryDirectory() as folder:
-        commands = {"c": [built(Path(sys.argv[1]).resolve(), Path(folder))], "rattle": [BENCHES, "hits"]}
-        print("| frames | from C, ns a hit | from Rattle, ns a hit | C by Rattle | middle |")
-        print("|---|---|---|---|---|")
+        commands = {"ours": [built(Path(sys.argv[1]).resolve(), Path(folder))], "Rattle": [program("bench_threads"), "hits"]}
         for frames in POOLS:
-            spent = measured(commands, frames)
-            least = {name: min(it) for name, it in spent.items()}
-            middle = {name: statistics.median(it) for name, it in spent.items()}
-            print(f"| {frames:,} | {least['c']:.1f} | {least['rattle']:.1f} | {least['c'] / least['rattle']:.2f} | {middle['c'] / middle['rattle']:.2f} |", flush=True)
+            measure(commands, frames, hits)
 
 
 if __name__ == "__main__":

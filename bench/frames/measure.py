@@ -1,10 +1,10 @@
 #!/usr/bin/env python3
-"""Measures frames and bucket digests against the same in plain Rust, and prints the table of docs/PERFORMANCE.md.
+"""Measures frames and bucket digests against the same in plain Rust.
 
 usage: measure.py [ROUNDS]      how often each is done in a run (default: 30)
 
-It needs the proved program (`rt run` in crates/benches leaves it as crates/benches/out/benches) and `rustc`. Both
-programs run in turn, five times, and the fastest run of each counts. Both must print the same.
+It needs the proved program `benches` and `rustc`. Both programs run in turn, five times. Both must print the same. It prints the lines of
+bench/runs.py.
 """
 
 import subprocess
@@ -13,7 +13,9 @@ import tempfile
 from pathlib import Path
 
 HERE = Path(__file__).resolve().parent
-OURS = [HERE.parent.parent / "crates/benches/out/benches", "frames"]
+sys.path.insert(0, str(HERE.parent))
+from runs import Runs, compiled, program  # noqa: E402
+
 RUNS = 5
 FRAME = 31_023
 SUMMED = 3_100_000
@@ -29,25 +31,25 @@ def one_run(command: list, rounds: int) -> tuple[list[str], list[int]]:
     return made, [int(word) for line in said if line.endswith(" ns") for word in line.split()[:-1]]
 
 
+def cases(rounds: int) -> list[tuple[str, int]]:
+    """What is done, and its bytes, in the order of the programs."""
+    found = [("encode a full frame", FRAME * rounds), ("decode a full frame", FRAME * rounds), ("digests of 100,000 pages", SUMMED * rounds)]
+    return found + [(f"decode {STREAM:,} frames in pieces of {size:,} bytes", FRAME * STREAM) for size in PIECES]
+
+
 def main() -> None:
     rounds = int(sys.argv[1]) if len(sys.argv) > 1 else 30
+    took = Runs()
     with tempfile.TemporaryDirectory() as folder:
-        plain = Path(folder) / "plain"
-        subprocess.run(["rustc", "-O", "--edition", "2024", "-o", plain, HERE / "plain.rs"], check=True)
-        best = {}
+        commands = {"ours": [program("benches"), "frames"], "plain Rust": [compiled(HERE / "plain.rs", Path(folder))]}
         for _ in range(RUNS):
             made = {}
-            for name, command in [("ours", OURS), ("plain", [plain])]:
+            for name, command in commands.items():
                 made[name], spent = one_run(command, rounds)
-                best[name] = [min(it) for it in zip(spent, best.get(name, spent))]
-            assert made["ours"] == made["plain"], made
-    print("| what | ours, MB/s | plain Rust, MB/s | ours to plain |")
-    print("|---|---|---|---|")
-    rows = [("encode a full frame", FRAME * rounds), ("decode it", FRAME * rounds), ("sum the buckets of 100,000 pages", SUMMED * rounds)]
-    rows += [(f"decode {STREAM:,} frames in pieces of {size:,} bytes", FRAME * STREAM) for size in PIECES]
-    for i, (what, size) in enumerate(rows):
-        ours, plain = (size / best[name][i] * 1e3 for name in ["ours", "plain"])
-        print(f"| {what} | {ours:.0f} | {plain:.0f} | {ours / plain:.2f} |")
+                for (what, size), nanos in zip(cases(rounds), spent, strict=True):
+                    took.add(what, name, "MB/s", size / nanos * 1e3)
+            assert made["ours"] == made["plain Rust"], made
+    took.print()
 
 
 if __name__ == "__main__":

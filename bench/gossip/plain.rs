@@ -2,7 +2,7 @@
 //!
 //! A replica is a map for each bucket with a horizon, and a pool that finds its pages by a `HashMap`. It caches the digests of its buckets and its
 //! warm-up list until its history changes. There is no rollback on an allocation failure, as nothing is refused here. The arguments are those
-//! of the proved program, which must accept, in addition to `round`, `warm`, `offer` and `history`:
+//! of the proved program, which must accept, in addition to `round`, `warm`, `follow`, `offer` and `history`:
 //! - `raised PAGES OFFERS`: that many offers by a replica with PAGES pages of two stamps each, of the times 2^40 + i and
 //!   2^40 + i + 7 for page `scattered(i, PAGES)`, that has made an offer. Before offer i, counted from 0, it absorbs, in one batch, the 100
 //!   pages 0:N, 0:N + 64, .. at the time i + 1, where N is the least multiple of 64 that is not below PAGES; it makes an offer; and its
@@ -85,6 +85,22 @@ fn warmed(pages: u64, steps: u64) -> (u64, u128) {
     (sum, nanos)
 }
 
+// Each step but the first follows a reference to another page.
+fn followed(pages: u64, steps: u64) -> (u64, u128) {
+    let mut node = knowing(1, WARMED, pages);
+    node.warm_step().expect("no page is fixed");
+    let start = Instant::now();
+    let mut sum = 0u64;
+    for i in 0..steps {
+        node.see(scattered(i, pages), Stamp { time: LATE + i, replica: 1 });
+        // The sum of a step, as of a warm-up of one.
+        let loaded = node.warm_step().expect("no page is fixed").map_or(0, |page| page.no);
+        sum = sum.wrapping_mul(31).wrapping_add(loaded);
+    }
+    let nanos = start.elapsed().as_nanos();
+    (sum, nanos)
+}
+
 // This many offers. Before each the node absorbs pages of this many buckets, which is not timed.
 fn offers(pages: u64, buckets: u64, offers: u64) -> (u64, u128) {
     let mut node = knowing(1, 1, pages);
@@ -139,10 +155,11 @@ fn main() {
     let (sum, nanos) = match words.first().map(String::as_str) {
         Some("round") => rounds(number(1), number(2), number(3)),
         Some("warm") => warmed(number(1), number(2)),
+        Some("follow") => followed(number(1), number(2)),
         Some("offer") => offers(number(1), number(2), number(3)),
         Some("raised") => raised_offers(number(1), number(2)),
         Some("history") => remembered(number(1)),
-        _ => panic!("round, warm, offer, raised or history"),
+        _ => panic!("round, warm, follow, offer, raised or history"),
     };
     println!("{sum}");
     println!("{nanos} ns");

@@ -1,16 +1,15 @@
 #!/usr/bin/env python3
-"""Measures our pool from C beside Berkeley DB's Mpool and the block caches of RocksDB, and prints the tables of docs/PERFORMANCE.md.
+"""Measures our pool from C beside Berkeley DB's Mpool and the block caches of RocksDB.
 
-usage: measure.py LIBRARY [ROUNDS]      LIBRARY is the folder that scripts/c-library made; ROUNDS is 7 where it is not given, and with 0
+usage: measure.py LIBRARY [ROUNDS]      LIBRARY is the folder that scripts/c-library made; ROUNDS is 7 by default, and with 0
                                         instructions alone are counted
 
 README.md says what is compared. It needs what bench/peers/install installs, C compilers (cc and c++, or what CC and CXX name), and 2 GB in
 /dev/shm for the file of the pages; where something is missing it says what, and ends with status 2. Each round runs all pools on all loads
-in a drawn order, and of all rounds the fastest slice counts; a cell is "busy" where the machine never ran four threads at once.
-Instructions are those of one thread, counted by callgrind.
+in a drawn order; the number of a run is that of its fastest slice, or `inf` where the machine never ran four threads at once.
+Instructions are those of one thread, counted by callgrind. It prints the lines of bench/runs.py.
 """
 
-import math
 import os
 import random
 import re
@@ -22,6 +21,9 @@ from pathlib import Path
 from typing import NamedTuple, NoReturn
 
 HERE = Path(__file__).resolve().parent
+sys.path.append(str(HERE.parent))
+from runs import Runs  # noqa: E402
+
 MEMORY = Path("/dev/shm")
 ROUNDS = 7
 PAGE_SIZE = 4096
@@ -32,7 +34,7 @@ COUNTED_SLICES = 64
 SIZES = [1_024, 65_536]
 THREADS = [1, 4]
 SHARDS = 16  # of four threads; of one thread each program chooses
-HEADS = {"hits": "a hit", "misses": "a miss"}
+NAMES = {"hits": "a hit", "misses": "a miss"}
 
 
 class Pool(NamedTuple):
@@ -55,6 +57,9 @@ class Load(NamedTuple):
     what: str
     pages: int
     threads: int
+
+    def case(self) -> str:
+        return f"{NAMES[self.what]}, {self.pages:,} pages"
 
 
 LOADS = [Load(what, pages, threads) for what in SLICES for threads in THREADS for pages in SIZES]
@@ -102,20 +107,19 @@ def write_pages(path: Path) -> None:
 
 class Bench:
     def __init__(self, folder: Path, pages: Path) -> None:
-        self.folder, self.pages = folder, pages
-        self.least: dict[tuple[str, Load], float] = {}
+        self.folder, self.pages, self.took = folder, pages, Runs()
 
     def command(self, pool: Pool, load: Load, slices: int) -> list[str | Path]:
         words = [pool.kind, load.what, str(load.pages), str(slices), str(load.threads), str(SHARDS if load.threads > 1 else 0)]
         return [self.folder / pool.program, *words, self.pages]
 
     def run(self, name: str, load: Load) -> None:
-        """The nanoseconds of the fastest slice, if they are less than those before. A hit reads nothing from the file, a miss reads once."""
+        """The nanoseconds of the fastest slice. A hit reads nothing from the file, a miss reads once."""
         said = subprocess.run(self.command(POOLS[name], load, SLICES[load.what]), stdout=subprocess.PIPE, check=True, text=True).stdout
         spent, reads = (float(line.split()[0]) for line in said.splitlines())
         if abs(reads - (load.what == "misses")) > 0.01:
             sys.exit(f"peers: {name}, {load}: {reads} reads a call")
-        self.least[name, load] = min(spent, self.least.get((name, load), spent))
+        self.took.add(f"{load.case()}, threads: {load.threads}", name, "ns", spent)
 
     def instructions(self, name: str, load: Load) -> float:
         """Those of a call. What the system does for it is not counted."""
@@ -126,19 +130,10 @@ class Bench:
         assert collected, said
         return int(collected[1]) / (COUNTED_SLICES * SLICE)
 
-    def cell(self, name: str, load: Load) -> str:
-        least = self.least.get((name, load))
-        return "" if least is None else "busy" if math.isinf(least) else f"{least:,.0f}"
-
-    def print_table(self, what: str) -> None:
-        print(f"| {HEADS[what]} |" + "".join(f" {pages:,} pages, ns | instructions | 4 threads, ns |" for pages in SIZES))
-        print("|---|" + "---|" * 3 * len(SIZES))
-        for name in POOLS:
-            cells = []
-            for pages in SIZES:
-                alone, together = (Load(what, pages, threads) for threads in THREADS)
-                cells += [self.cell(name, alone), f"{self.instructions(name, alone):,.0f}", self.cell(name, together)]
-            print(f"| {name} | {' | '.join(cells)} |", flush=True)
+    def count(self) -> None:
+        for load in (it for it in LOADS if it.threads == 1):
+            for name in POOLS:
+                self.took.add(load.case(), name, "instructions", self.instructions(name, load))
 
 
 def main() -> None:
@@ -151,15 +146,13 @@ def main() -> None:
     with tempfile.TemporaryDirectory() as built, tempfile.TemporaryDirectory(dir=MEMORY) as memory:
         build(Path(library).resolve(), Path(built))
         bench = Bench(Path(built), Path(memory) / "pages")
-        print(f"load before: {os.getloadavg()[0]:.2f} on {len(os.sched_getaffinity(0))} processors; {rounds} rounds\n", flush=True)
         write_pages(bench.pages)
-        runs = [(name, load) for name, pool in POOLS.items() for load in LOADS if load.threads <= pool.threads]
+        runs = [(name, load) for load in LOADS for name, pool in POOLS.items() if load.threads <= pool.threads]
         for _ in range(rounds):
             for name, load in random.sample(runs, len(runs)):
                 bench.run(name, load)
-        for what in SLICES:
-            bench.print_table(what)
-            print()
+        bench.count()
+        bench.took.print()
 
 
 if __name__ == "__main__":

@@ -1,18 +1,16 @@
 #!/usr/bin/env python3
 """Measures hits by 1, 2 and 4 threads in shards that they share (`SharedShards`, each shard behind a turn), beside shards and a node that one
-thread has for itself and beside plain Rust with a Mutex around each shard; prints the tables of docs/PERFORMANCE.md.
+thread has for itself and beside plain Rust with a Mutex around each shard.
 
-usage: measure.py [HITS [ROUNDS]]      HITS of each thread, 1,000,000 where it is not given; ROUNDS, 7
+usage: measure.py [HITS [ROUNDS]]      HITS of each thread, 1,000,000 by default; ROUNDS, 7
 
 A hit is a pin, a read of eight bytes and an unpin of a resident page of 4,096 bytes, drawn evenly; by `SharedShards::look` all three are one
-turn, as is one lock for a hit in plain Rust. It needs the proved program (`rt run` in
-crates/bench_threads leaves it as crates/bench_threads/out/bench_threads; the variable BENCHES names another), `rustc`, valgrind, 1 GB of memory and four processors
-that nothing else uses. Each round runs all in a drawn order, and of all rounds the fastest run counts: the time from the first thread's begin
-to the last thread's end, by the hits of one thread. Programs that draw the same pages must print the same sum. Instructions are those of one
-thread, counted by callgrind: what a run of twice as many hits takes more.
+turn, as is one lock for a hit in plain Rust. It needs the proved program `bench_threads`, `rustc`, valgrind, 1 GB of memory and four processors
+that nothing else uses. Each round runs all in a drawn order. The time is from the first thread's begin to the last thread's end, by the hits
+of one thread. Programs that draw the same pages must print the same sum. Instructions are those of one thread, counted by callgrind: what a
+run of twice as many hits takes more. It prints the lines of bench/runs.py.
 """
 
-import os
 import random
 import re
 import subprocess
@@ -22,7 +20,9 @@ from pathlib import Path
 from typing import NamedTuple
 
 HERE = Path(__file__).resolve().parent
-BENCHES = Path(os.environ.get("BENCHES", HERE.parent.parent / "crates/bench_threads/out/bench_threads"))
+sys.path.insert(0, str(HERE.parent))
+from runs import Runs, compiled, program  # noqa: E402
+
 HITS = 1_000_000
 ROUNDS = 7
 COUNTED_HITS = 20_000
@@ -37,10 +37,9 @@ class Row(NamedTuple):
     after: list[str] = []
 
 
-ALONE = "`Shards`, one shard"
 ROWS = {
     "a node": Row("ours", ["node"]),
-    ALONE: Row("ours", ["alone", "1"]),
+    "`Shards`, one shard": Row("ours", ["alone", "1"]),
     "`Shards`, 16 shards": Row("ours", ["alone", str(SHARDS)]),
     "`SharedShards`, one shard": Row("ours", ["1", "THREADS"]),
     "`SharedShards`, 16 shards": Row("ours", [str(SHARDS), "THREADS"]),
@@ -50,7 +49,7 @@ ROWS = {
     "plain Rust, 16 shards": Row("plain", [str(SHARDS), "alone"]),
     "plain Rust, one Mutex": Row("plain", ["1", "THREADS"]),
     "plain Rust, 16 Mutexes": Row("plain", [str(SHARDS), "THREADS"]),
-    "the same, one lock for a hit": Row("plain", [str(SHARDS), "THREADS"], ["once"]),
+    "plain Rust, 16 Mutexes, one lock for a hit": Row("plain", [str(SHARDS), "THREADS"], ["once"]),
 }
 
 
@@ -58,6 +57,9 @@ class Cell(NamedTuple):
     row: str
     pages: int
     threads: int
+
+    def case(self) -> str:
+        return f"a hit, {self.pages:,} pages, threads: {self.threads}"
 
     def words(self, hits: int) -> list[str]:
         row = ROWS[self.row]
@@ -82,16 +84,15 @@ class Bench(NamedTuple):
         read, spent = said.splitlines()
         return read, int(spent.split()[0]) / self.hits
 
-    def fastest(self, rounds: int) -> dict[Cell, float]:
-        cells = [Cell(name, pages, threads) for name, row in ROWS.items() for pages in SIZES for threads in THREADS if is_played(row, threads)]
-        least: dict[Cell, float] = {}
+    def measure(self, cells: list[Cell], rounds: int) -> None:
+        took = Runs()
         sums: dict[tuple[int, int], str] = {}
         for _ in range(rounds):
             for cell in random.sample(cells, len(cells)):
                 read, spent = self.one_run(cell)
-                least[cell] = min(spent, least.get(cell, spent))
+                took.add(cell.case(), cell.row, "ns", spent)
                 assert sums.setdefault((cell.pages, cell.threads), read) == read, cell
-        return least
+        took.print()
 
     def counted(self, cell: Cell, hits: int) -> int:
         command = ["valgrind", "--tool=callgrind", "--callgrind-out-file=/dev/null", *self.command(cell, hits)]
@@ -103,34 +104,21 @@ class Bench(NamedTuple):
     def instructions(self, cell: Cell) -> float:
         return (self.counted(cell, 2 * COUNTED_HITS) - self.counted(cell, COUNTED_HITS)) / COUNTED_HITS
 
-
-def said_of(least: dict[Cell, float], cell: Cell) -> str:
-    """The nanoseconds of a hit, and how many times as many hits a second that is as one thread makes in one shard that it has for itself."""
-    if cell not in least:
-        return " |"
-    return f"{least[cell]:,.0f} | {least[Cell(ALONE, cell.pages, 1)] * cell.threads / least[cell]:.2f}"
-
-
-def print_table(bench: Bench, least: dict[Cell, float], pages: int) -> None:
-    print(f"| a hit, {pages:,} pages | instructions |" + "".join(f" {threads} thread{'s' * (threads > 1)}, ns | times |" for threads in THREADS))
-    print("|---|---|" + "---|" * 2 * len(THREADS))
-    for name in ROWS:
-        cells = [Cell(name, pages, threads) for threads in THREADS]
-        print(f"| {name} | {bench.instructions(cells[0]):,.0f} | " + " | ".join(said_of(least, cell) for cell in cells) + " |", flush=True)
-    print()
+    def count(self, cells: list[Cell]) -> None:
+        took = Runs()
+        for cell in cells:
+            took.add(f"a hit, {cell.pages:,} pages", cell.row, "instructions", self.instructions(cell))
+        took.print()
 
 
 def main() -> None:
     numbers = [int(word) for word in sys.argv[1:]]
     hits, rounds = (*numbers, *[HITS, ROUNDS][len(numbers) :])
-    print(f"load before: {os.getloadavg()[0]:.2f} on {len(os.sched_getaffinity(0))} processors; {rounds} rounds of {hits:,} hits of each thread\n", flush=True)
+    cells = [Cell(name, pages, threads) for pages in SIZES for threads in THREADS for name, row in ROWS.items() if is_played(row, threads)]
     with tempfile.TemporaryDirectory() as folder:
-        plain = Path(folder) / "plain"
-        subprocess.run(["rustc", "-O", "--edition", "2024", "-o", plain, HERE / "plain.rs"], check=True)
-        bench = Bench({"ours": [BENCHES, "shared"], "plain": [plain]}, hits)
-        least = bench.fastest(rounds)
-        for pages in SIZES:
-            print_table(bench, least, pages)
+        bench = Bench({"ours": [program("bench_threads"), "shared"], "plain": [compiled(HERE / "plain.rs", Path(folder))]}, hits)
+        bench.measure(cells, rounds)
+        bench.count([it for it in cells if it.threads == 1])
 
 
 if __name__ == "__main__":

@@ -1,11 +1,11 @@
 #!/usr/bin/env python3
 """Measures `warmplay threads` against the same job in plain Rust, with a Mutex around each replica.
 
-usage: measure.py WARMPLAY [REFERENCES]      the number of references (default: 1,000,000)
+usage: measure.py [REFERENCES]      the number of references (default: 1,000,000)
 
-It needs the proved program (`rt run` in crates/warmplay leaves it as crates/warmplay/out/warmplay) and `rustc`. Three replicas of 16
-workers each; buffers of 64 and of 1024 references; 1,000 and 100,000 pages, drawn evenly. Both programs run in turn, five times, and the
-fastest run of each counts, by the clock and by the processor time of the program itself. Their answers must be equal.
+It needs the proved program `warmplay` and `rustc`. Three replicas of 16 workers each; buffers of 64 and of 1024 references; 1,000 and
+100,000 pages, drawn evenly. Both programs run in turn, five times, and are measured by the clock and by the processor time of the program
+itself. Their answers must be equal. It prints the lines of bench/runs.py.
 """
 
 import os
@@ -17,6 +17,9 @@ import time
 from pathlib import Path
 
 HERE = Path(__file__).resolve().parent
+sys.path.insert(0, str(HERE.parent))
+from runs import Runs, compiled, program  # noqa: E402
+
 RUNS = 5
 REPLICAS, WORKERS = 3, 16
 
@@ -41,34 +44,33 @@ def write_schedule(path: Path, references: int, pages: int) -> None:
             out.write(f"ref {1 + draw.randrange(REPLICAS)} {1 + draw.randrange(WORKERS)} 0:{draw.randrange(pages)} {time_of}\n")
 
 
+def measure(case: str, programs: dict[str, list[str]], folder: Path) -> None:
+    took = Runs()
+    for _ in range(RUNS):
+        for name, words in programs.items():
+            clock, used = spent(words, folder / f"{name}.out")
+            took.add(case, name, "s", clock)
+            took.add(f"processor time, {case}", name, "s", used)
+    first, *others = [(folder / f"{name}.out").read_bytes() for name in programs]
+    if any(first != it for it in others):
+        sys.exit("the answers differ")
+    took.print()
+
+
 def main() -> None:
-    warmplay, references = sys.argv[1], int(sys.argv[2]) if len(sys.argv) > 2 else 1_000_000
-    print(f"{references:,} references, {os.cpu_count()} processors")
-    print("| Pages | Buffer | warmplay, s | plain, s | plain to warmplay | in the program: warmplay, s | plain, s |")
-    print("|---|---|---|---|---|---|---|")
+    references = int(sys.argv[1]) if len(sys.argv) > 1 else 1_000_000
     with tempfile.TemporaryDirectory() as name:
         folder = Path(name)
-        plain, schedule, setup = folder / "plain", folder / "schedule", folder / "setup.toml"
-        subprocess.run(["rustc", "-O", "--edition", "2024", "-o", plain, HERE / "plain.rs"], check=True)
+        plain, schedule, setup = compiled(HERE / "plain.rs", folder), folder / "schedule", folder / "setup.toml"
         for pages in [1_000, 100_000]:
             write_schedule(schedule, references, pages)
             for buffer in [64, 1024]:
                 setup.write_text(f"replicas = {REPLICAS}\nworkers = {WORKERS}\nbuffer = {buffer}\n", encoding="ascii")
                 programs = {
-                    "warmplay": [warmplay, "threads", str(schedule), "--setup", str(setup)],
-                    "plain": [str(plain), str(schedule), str(REPLICAS), str(WORKERS), str(buffer)],
+                    "ours": [str(program("warmplay")), "threads", str(schedule), "--setup", str(setup)],
+                    "plain Rust": [str(plain), str(schedule), str(REPLICAS), str(WORKERS), str(buffer)],
                 }
-                best: dict[str, tuple[float, float]] = {}
-                for _ in range(RUNS):
-                    for program, words in programs.items():
-                        took = spent(words, folder / f"{program}.out")
-                        best[program] = min(took, best.get(program, took))
-                if (folder / "warmplay.out").read_bytes() != (folder / "plain.out").read_bytes():
-                    sys.exit("the answers differ")
-                ours, theirs = best["warmplay"], best["plain"]
-                print(
-                    f"| {pages:,} | {buffer} | {ours[0]:.2f} | {theirs[0]:.2f} | {theirs[0] / ours[0]:.2f} | {ours[1]:.2f} | {theirs[1]:.2f} |"
-                )
+                measure(f"{references:,} references, {pages:,} pages, buffers of {buffer}", programs, folder)
 
 
 if __name__ == "__main__":

@@ -12,6 +12,8 @@
 //!   timed.
 //! - `warm PAGES STEPS`: that many steps of the warm-up of a replica with that many pages, into
 //!   4,096 frames.
+//! - `follow PAGES STEPS`: the same, but the first step is not timed, and before each other one the
+//!   replica absorbs a reference to another page.
 //! - `history PAGES`: a replica absorbs references to that many pages.
 use crate::parts::{added, added_bytes, node_over, replica, scattered, twice};
 use anyhow::{Context, Result, bail};
@@ -345,6 +347,29 @@ fn warmed(clock: &impl Clock, alloc: Global, pages: u32, steps: u32) -> Result<M
     Ok(Made { checksum, nanos })
 }
 
+// Steps of a node's warm-up, before each of which it absorbs a reference to the next page in turn.
+fn steps_after_references(node: &mut Node<MemDevice>, pages: u32, steps: u32) -> Result<u64> {
+    let replica = node.id();
+    let mut checksum = 0u64;
+    for i in 0..steps {
+        let page = scattered(u64::from(i), u64::from(pages));
+        let time = LATE.wrapping_add(u64::from(i));
+        let stamp = Stamp { time, replica };
+        absorbed(node, &[Reference { page, stamp }])?;
+        checksum = added(checksum, warm_steps(node, 1)?);
+    }
+    Ok(checksum)
+}
+
+fn followed(clock: &impl Clock, alloc: Global, pages: u32, steps: u32) -> Result<Made> {
+    let mut node = node_of_pages(alloc, 1, WARMED, pages, 0)?;
+    let _first = warm_steps(&mut node, 1)?;
+    let start = Instant::now(clock)?;
+    let checksum = steps_after_references(&mut node, pages, steps)?;
+    let nanos = start.elapsed(clock)?.as_nanos();
+    Ok(Made { checksum, nanos })
+}
+
 // A node absorbs references to this many pages, a batch at a time, so that only its history uses
 // much memory.
 fn remember(node: &mut Node<MemDevice>, pages: u32) -> Result<()> {
@@ -385,6 +410,10 @@ enum Case {
         pages: u32,
         steps: u32,
     },
+    Follow {
+        pages: u32,
+        steps: u32,
+    },
     History {
         pages: u32,
     },
@@ -404,6 +433,7 @@ fn measured(clock: &impl Clock, alloc: Global, case: Case) -> Result<Made> {
         } => offers_over(clock, alloc, pages, buckets, offers),
         Case::Raised { pages, offers } => raised_offers_over(clock, alloc, pages, offers),
         Case::Warm { pages, steps } => warmed(clock, alloc, pages, steps),
+        Case::Follow { pages, steps } => followed(clock, alloc, pages, steps),
         Case::History { pages } => remembered(clock, alloc, pages),
     }
 }
@@ -435,12 +465,16 @@ fn case_of(words: &[String]) -> Result<Case> {
             pages,
             steps: second,
         }),
+        Some("follow") => Ok(Case::Follow {
+            pages,
+            steps: second,
+        }),
         Some("history") => Ok(Case::History { pages }),
-        _ => bail!("round, offer, raised, warm or history"),
+        _ => bail!("round, offer, raised, warm, follow or history"),
     }
 }
 
-const SMALL: [(&str, Case); 7] = [
+const SMALL: [(&str, Case); 8] = [
     (
         "round, 1 bucket",
         Case::Round {
@@ -483,6 +517,13 @@ const SMALL: [(&str, Case); 7] = [
     (
         "warm-up",
         Case::Warm {
+            pages: 1_000,
+            steps: 64,
+        },
+    ),
+    (
+        "warm-up that follows references",
+        Case::Follow {
             pages: 1_000,
             steps: 64,
         },
