@@ -5,6 +5,7 @@ pub mod WarmingUp
 pub mod Batches
 pub mod Given
 pub mod Clauses
+pub mod Engine
 pub mod Lending
 pub mod Victims
 pub mod WarmUps

@@ -5,22 +5,18 @@
 //! device has bytes of its own: it cannot say how many dirty pages are left, nor what a page
 //! contains once it is forgotten. A page with zeros is pinned by a program that fills it through
 //! bytes that it is lent.
-ghost use Rattle.std.specs.Prelude.{◌≡◌, ◌≢◌, IfErr, IfOk, OnErr, OnOk, length};
-ghost use Rattle.warm_pool.specs.declared.fault.PoolFault.TheVariants.{Fault, ReadFault};
+ghost use Rattle.std.specs.Prelude.{◌≡◌, IfErr, IfOk, OnOk, length};
 ghost use Rattle.warm_pool.specs.Filling.{AreFromDevice, TakesFilled};
 ghost use Rattle.warm_pool.specs.Forgetting.{ForgetRefused, Forgets, MayForget};
-ghost use Rattle.warm_pool.specs.Keeping.{KeepsFrames, KeepsRanks, SameButFailures};
-ghost use Rattle.warm_pool.specs.Calls.{FlushesNone, FlushesOnce, ReadsNone};
-ghost use Rattle.warm_pool.specs.Retiring.{KeepsElsewhere};
+ghost use Rattle.warm_pool.specs.Keeping.{KeepsRanks};
+ghost use Rattle.warm_pool.specs.Outcomes.{FlushDeviceFails, SettlesDevice, UnreadPinFails};
+ghost use Rattle.warm_pool.specs.Outcomes.{WritePageFails, WriteSomeFails, WritesPageBack};
+ghost use Rattle.warm_pool.specs.Outcomes.{WritesSomeBack, ZeroesPage};
 ghost use Rattle.warm_pool.specs.View.{view_of, Holds};
-ghost use Rattle.warm_pool.specs.WritingSome.{FlushRefused, IsSettledOn, KeepsOtherDevices};
-ghost use Rattle.warm_pool.specs.WritingSome.{PageFails, SomeFails, WritesBackPage};
-ghost use Rattle.warm_pool.specs.WritingSome.{WritesBackSome};
-ghost use Rattle.warm_pool.specs.Zeroing.{LeavesUnread, PinnedZeroed, TakesZeroed, ZeroedRefused};
-ghost use Rattle.warm_gossip.specs.declared.fault.NodeFault.TheVariants.{Pool};
 ghost use Rattle.warm_gossip.specs.declared.call.Call.TheVariants.{Pin};
 ghost use Rattle.warm_gossip.specs.declared.call.Reply.TheVariants.{Pinned};
-ghost use Rattle.warm_gossip.specs.Clauses.{Answered, OfPool, SameView};
+ghost use Rattle.warm_gossip.specs.Clauses.{Answered, OfPool};
+ghost use Rattle.warm_gossip.specs.Engine.{AsksPool};
 
 use crate::fault::NodeFault;
 use crate::node::Node;
@@ -45,20 +41,8 @@ impl<D: PageDevice> Node<D> {
     /// effects: those of a pin but `ReadFault`, which doesn't occur. Pages, pin counts and contents
     /// are unchanged.
     pub fn pin_zeroed(&mut self, page: PageId) -> Result<Slot, NodeFault>
-        ensures id { self.new.id ≡ self.old.id }
-        ensures history { self.new.history ≡ self.old.history }
-        ensures pinned { IfOk result (λ slot. PinnedZeroed self.old.history
-            (view_of self.old.pool) page slot (view_of self.new.pool)) }
-        ensures holds { IfOk result (λ slot. Holds (view_of self.new.pool) slot) }
-        ensures frame { IfOk result (λ slot. TakesZeroed self.old.pool page slot self.new.pool) }
-        ensures refused { IfErr result (OfPool (λ fault. ZeroedRefused self.old.history
-            (view_of self.old.pool) page fault (view_of self.new.pool))) }
-        ensures stays { OnErr result (SameButFailures
-            (view_of self.old.pool) (view_of self.new.pool)) }
-        ensures frames { OnErr result (KeepsFrames self.old.pool self.new.pool) }
-        ensures devices { IfErr result (OfPool (λ fault. LeavesUnread self.old.history
-            self.old.pool fault self.new.pool)) }
-        ensures unflushed { FlushesNone self.old.pool.devices self.new.pool.devices }
+        ensures { AsksPool (ZeroesPage self.old.history page)
+            (UnreadPinFails self.old.history page) self.old result self.new }
     {
         let slot = self.pool.pin_zeroed(page, self.peer.history())?;
         self.warm_up.passed = 0;
@@ -83,14 +67,8 @@ impl<D: PageDevice> Node<D> {
         ensures holds { IfOk result (λ slot. Holds (view_of self.new.pool) slot) }
         ensures frame { IfOk result (λ slot. TakesFilled
             self.old.pool page bytes.now slot self.new.pool) }
-        ensures no_read_fault { IfErr result (OfPool (λ fault. fault ≢ ReadFault)) }
-        ensures stays { OnErr result (SameButFailures
-            (view_of self.old.pool) (view_of self.new.pool)) }
-        ensures frames { OnErr result (KeepsFrames self.old.pool self.new.pool) }
-        ensures devices { IfErr result (OfPool (λ fault. LeavesUnread self.old.history
-            self.old.pool fault self.new.pool)) }
-        ensures unread { ReadsNone self.old.pool.devices self.new.pool.devices }
-        ensures unflushed { FlushesNone self.old.pool.devices self.new.pool.devices }
+        ensures refused { IfErr result (OfPool (λ why. UnreadPinFails
+            self.old.history page self.old.pool why self.new.pool)) }
     {
         let filled = self.pool.pin_filled(page, self.peer.history(), bytes)?;
         // The order of the list is over the references that the history holds.
@@ -109,15 +87,9 @@ impl<D: PageDevice> Node<D> {
     /// `Pool(Fault)`: a write failed. Pages, pin counts and contents are unchanged; the write-backs
     /// made before it stay, and all other pages are dirty as before.
     pub fn write_back_some(&mut self, limit: usize) -> Result<usize, NodeFault>
-        ensures id { self.new.id ≡ self.old.id }
-        ensures history { self.new.history ≡ self.old.history }
-        ensures same { OnOk result (SameView self.old self.new) }
-        ensures written { IfOk result (λ left. WritesBackSome limit
-            self.old.pool left self.new.pool) }
-        ensures refused { IfErr result (λ why. (why ≡ Pool Fault)
-            × SomeFails limit self.old.pool self.new.pool) }
-        ensures unflushed { FlushesNone self.old.pool.devices self.new.pool.devices }
         ensures ranked { KeepsRanks self.old.pool self.new.pool }
+        ensures asked { AsksPool (WritesSomeBack limit) (WriteSomeFails limit)
+            self.old result self.new }
     {
         let left = self.pool.write_back_some(limit)?;
         Ok(left)
@@ -131,15 +103,9 @@ impl<D: PageDevice> Node<D> {
     /// `Pool(Fault)`: the write failed, and its device's count of failures has increased. Frames
     /// are unchanged, so the page is dirty as before.
     pub fn write_back_page(&mut self, page: PageId) -> Result<bool, NodeFault>
-        ensures id { self.new.id ≡ self.old.id }
-        ensures history { self.new.history ≡ self.old.history }
-        ensures same { OnOk result (SameView self.old self.new) }
-        ensures written { IfOk result (λ was_dirty. WritesBackPage
-            self.old.pool page was_dirty self.new.pool) }
-        ensures refused { IfErr result (λ why. (why ≡ Pool Fault)
-            × PageFails self.old.pool page self.new.pool) }
-        ensures unflushed { FlushesNone self.old.pool.devices self.new.pool.devices }
         ensures ranked { KeepsRanks self.old.pool self.new.pool }
+        ensures asked { AsksPool (WritesPageBack page) (WritePageFails page)
+            self.old result self.new }
     {
         let was_dirty = self.pool.write_back_page(page)?;
         Ok(was_dirty)
@@ -155,16 +121,9 @@ impl<D: PageDevice> Node<D> {
     /// - `Pool(Fault)`: a write or the flush of the device failed, and its count of failures has
     ///   increased. The write-backs made before it stay.
     pub fn flush_device(&mut self, dev: u16) -> Result<(), NodeFault>
-        ensures id { self.new.id ≡ self.old.id }
-        ensures history { self.new.history ≡ self.old.history }
-        ensures same { OnOk result (SameView self.old self.new) }
-        ensures settled { OnOk result (IsSettledOn dev self.new.pool) }
-        ensures refused { IfErr result (OfPool (λ fault. FlushRefused
-            self.old.pool dev fault self.new.pool)) }
-        ensures elsewhere { KeepsElsewhere dev self.old.pool self.new.pool }
-        ensures others { KeepsOtherDevices dev self.old.pool self.new.pool }
-        ensures once { FlushesOnce self.old.pool.devices self.new.pool.devices }
         ensures ranked { KeepsRanks self.old.pool self.new.pool }
+        ensures asked { AsksPool (λ old _. SettlesDevice dev old) (FlushDeviceFails dev)
+            self.old result self.new }
     {
         self.pool.flush_device(dev)?;
         Ok(())
@@ -183,12 +142,9 @@ impl<D: PageDevice> Node<D> {
     /// - `Pool(NoDevice)`: there is no device of this number.
     /// - `Pool(Fixed)`: one of the pages is pinned.
     pub fn forget_pages(&mut self, dev: u16, from: u64) -> Result<(), NodeFault>
-        ensures id { self.new.id ≡ self.old.id }
-        ensures history { self.new.history ≡ self.old.history }
-        ensures forgotten { OnOk result (Forgets self.old.pool dev from self.new.pool) }
-        ensures refused { IfErr result (OfPool (λ fault. ForgetRefused
-            self.old.pool dev from fault self.new.pool)) }
         ensures ranked { KeepsRanks self.old.pool self.new.pool }
+        ensures asked { AsksPool (λ old _. Forgets old dev from)
+            (λ old why. ForgetRefused old dev from why) self.old result self.new }
     {
         self.pool.forget_pages(dev, from)?;
         self.warm_up.passed = 0;

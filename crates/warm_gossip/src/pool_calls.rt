@@ -1,18 +1,15 @@
 //! The calls on a node's pool.
 ghost use Rattle.std.specs.Prelude.{◌≡◌, length, IfErr, IfOk, OnErr, OnOk};
-ghost use Rattle.warm_pool.specs.HandingBack.{HandsBackOne};
 ghost use Rattle.warm_pool.specs.Keeping.{KeepsRanks};
-ghost use Rattle.warm_pool.specs.Retiring.{KeepsElsewhere, RetireRefused, Retired};
+ghost use Rattle.warm_pool.specs.Outcomes.{ReplacesDevice, RetireFails, RetiresDevice};
 ghost use Rattle.warm_pool.specs.State.{IsSettled};
-ghost use Rattle.warm_pool.specs.View.{view_of};
 ghost use Rattle.warm_pool.specs.WritingBack.{WriteBackFails};
-ghost use Rattle.warm_pool.specs.WritingSome.{StopsAtDevice};
-ghost use Rattle.warm_pool.specs.declared.fault.PoolFault.TheVariants.{Fault};
 ghost use Rattle.warm_gossip.specs.declared.call.Call.TheVariants.{Pin, Unpin, Read, Write, Victim};
 ghost use Rattle.warm_gossip.specs.declared.call.Call.TheVariants.{Restart};
 ghost use Rattle.warm_gossip.specs.declared.call.Reply.TheVariants.{Pinned, Bytes, Page};
 ghost use Rattle.warm_gossip.specs.Clauses.{Answered, DevicesAnswered, Goes, ReadIntoFails};
 ghost use Rattle.warm_gossip.specs.Clauses.{SameView, NodeWriteBackFails, done};
+ghost use Rattle.warm_gossip.specs.Engine.{KeepsKnown};
 
 use crate::fault::NodeFault;
 use crate::node::Node;
@@ -177,19 +174,13 @@ impl<D: PageDevice> Node<D> {
     /// Those of [`warm_pool::Pool::replace`], in its order. Each gives the new device back, and
     /// leaves pages, pin counts and contents unchanged.
     pub fn replace(&mut self, dev: u16, device: D) -> Result<D, RetireError<D>>
-        ensures id { self.new.id ≡ self.old.id }
-        ensures history { self.new.history ≡ self.old.history }
-        ensures retired { OnOk result (Retired (view_of self.old.pool) dev
-            (D.state device) (view_of self.new.pool)) }
-        ensures handed_back { IfOk result (λ old. HandsBackOne self.old.pool dev (D.state old)) }
-        ensures refused { IfErr result (λ unretired. RetireRefused
-            (view_of self.old.pool) dev (D.state device) unretired.fault
-            (view_of self.new.pool)) }
-        ensures stopped { IfErr result (λ unretired. unretired.fault ≡ Fault
-            → StopsAtDevice dev self.old.pool self.new.pool) }
-        ensures given_back { IfErr result (λ unretired. unretired.device ≡ device) }
-        ensures elsewhere { KeepsElsewhere dev self.old.pool self.new.pool }
+        ensures known { KeepsKnown self.old self.new }
         ensures ranked { KeepsRanks self.old.pool self.new.pool }
+        ensures done { IfOk result (λ was. ReplacesDevice
+            dev (D.state device) self.old.pool (D.state was) self.new.pool) }
+        ensures refused { IfErr result (λ unretired. RetireFails
+            dev (D.state device) self.old.pool unretired.fault self.new.pool) }
+        ensures given_back { IfErr result (λ unretired. unretired.device ≡ device) }
     {
         let old = self.pool.replace(dev, device)?;
         self.warm_up.passed = 0;
@@ -201,18 +192,13 @@ impl<D: PageDevice> Node<D> {
     /// # Errors
     /// Those of [`Node::replace`], with the same effects.
     pub fn retire(&mut self, dev: u16, device: D) -> Result<(), RetireError<D>>
-        ensures id { self.new.id ≡ self.old.id }
-        ensures history { self.new.history ≡ self.old.history }
-        ensures retired { OnOk result (Retired (view_of self.old.pool) dev
-            (D.state device) (view_of self.new.pool)) }
-        ensures refused { IfErr result (λ unretired. RetireRefused
-            (view_of self.old.pool) dev (D.state device) unretired.fault
-            (view_of self.new.pool)) }
-        ensures stopped { IfErr result (λ unretired. unretired.fault ≡ Fault
-            → StopsAtDevice dev self.old.pool self.new.pool) }
-        ensures given_back { IfErr result (λ unretired. unretired.device ≡ device) }
-        ensures elsewhere { KeepsElsewhere dev self.old.pool self.new.pool }
+        ensures known { KeepsKnown self.old self.new }
         ensures ranked { KeepsRanks self.old.pool self.new.pool }
+        ensures done { OnOk result (RetiresDevice
+            dev (D.state device) self.old.pool self.new.pool) }
+        ensures refused { IfErr result (λ unretired. RetireFails
+            dev (D.state device) self.old.pool unretired.fault self.new.pool) }
+        ensures given_back { IfErr result (λ unretired. unretired.device ≡ device) }
     {
         let old = self.replace(dev, device)?;
         let_go(old);

@@ -1,4 +1,4 @@
--- The messages that a node sends, and its answers to a message.
+-- The messages that a peer sends, and its answers to a message.
 use Rattle.std.specs.Prelude.{◌≡◌, ◌^◌, ◌≢◌, ◌↔◌, ℕ, ◌==◌, ◌<◌, List, [], ◌∷◌, ◌++◌, Option}
 use Rattle.std.specs.Prelude.{if◌then◌else◌}
 use Rattle.std.specs.List.{flat_map}

@@ -1,4 +1,4 @@
--- What a node sends of a bucket since a time, in portions.
+-- What a peer sends of a bucket since a time, in portions.
 use Rattle.std.specs.Prelude.{ℕ, ◌<◌, length, Option}
 use Rattle.warm_stamps.specs.declared.PageId.{PageId}
 use Rattle.warm_stamps.specs.declared.Reference.{Reference}

@@ -1,0 +1,11 @@
+use Rattle.std.proofs.Common.{refl}
+use Rattle.std.proofs.lemmas.Result.{err_from_is_err_and}
+use Rattle.warm_gossip.proofs.node.Node.flush_device.Goals as goal
+
+pub returns-in_err-flush_device-clause-asked : goal.returns-in_err-flush_device-clause-asked
+returns-in_err-flush_device-clause-asked g c =
+    let given = err_from_is_err_and c.from_residual.result c.from_residual.ensures.1 in
+    rw (given.1, given.2, ← c.self.view_is) (record { known = record { id = refl; history = refl }; done = tt; refused = c.in_err-flush_device.ensures.refused })
+
+pub returns-clause-asked : goal.returns-clause-asked
+returns-clause-asked g c = rw (← c.self.view_is) (record { known = record { id = refl; history = refl }; done = c.in_ok-flush_device.ensures.done; refused = tt })
