@@ -9,41 +9,31 @@ use Rattle.warm_pool.specs.declared.fault.PoolFault.TheVariants.{SizeDiffers, No
 use Rattle.warm_pool.specs.declared.slot.Slot.{Slot}
 use Rattle.warm_pool.specs.Forgetting.{Forgets}
 use Rattle.warm_pool.specs.Frames.{FrameState, vacated}
-use Rattle.warm_pool.specs.Keeping.{SameButFailures}
+use Rattle.warm_pool.specs.Outcomes.{FlushDeviceFails, SettlesDevice, UnreadPinFails, WritePageFails, WriteSomeFails, WritesPageBack, WritesSomeBack}
 use Rattle.warm_pool.specs.Retiring.{RetireRefused, Retired, emptied}
 use Rattle.warm_pool.specs.State.{PoolState}
 use Rattle.warm_pool.specs.View.{FrameView, PoolView, frame_at, frame_view, view_of}
 use Rattle.warm_pool.specs.WritingBack.{is_from, is_on}
-use Rattle.warm_pool.specs.WritingSome.{FlushRefused, PageFails, SomeFails}
+use Rattle.warm_pool.specs.WritingSome.{FlushRefused}
 use Rattle.warm_pool.specs.Zeroing.{PinnedZeroed, PutsZeros}
 use Rattle.warm_pool.proofs.Slots.{at_set}
 use Rattle.warm_gossip.specs.declared.fault.NodeFault.{NodeFault}
-use Rattle.warm_gossip.specs.declared.fault.NodeFault.TheVariants.{Memory, Pool, StaleSlot}
-use Rattle.warm_gossip.specs.Clauses.{OfPool, SameView}
-use Rattle.warm_gossip.specs.State.{NodeState, NodeView, node_view}
+use Rattle.warm_gossip.specs.Clauses.{OfPool}
+use Rattle.warm_gossip.specs.Engine.{AsksPool, KeepsKnown}
+use Rattle.warm_gossip.specs.State.{NodeState}
+use Rattle.warm_gossip.proofs.EngineLemmas.{either_asked, known_pool, of_pool}
 use Rattle.warm_gossip.proofs.VictimLemmas.{fixes_change}
-use Rattle.warm_shards.specs.Clauses.{KeepsKnown}
 use Rattle.warm_shards.proofs.Calls.{HasOnly, only_kept}
 use Rattle.warm_shards.proofs.PoolCalls.{OnlyPool}
 
 abbrev no_frame : FrameView
 no_frame = record { page = None; generation = 0; fixes = 0 }
 
--- its pool alone has changed
-pub known_pool : (n m : NodeState) → KeepsKnown n m
-    → node_view m ≡ record (node_view n) { pool = view_of m.pool }
-known_pool n m known = λ i. record { id = known.id i; history = known.history i; pool = view_of m.pool }
-
 -- the frames that a caller sees are unchanged
 pub same_own : (P : PageId → Type 0) (v w : PoolView) → w.frames ≡ v.frames → HasOnly P v
     → HasOnly P w
 same_own P v w same own =
     only_kept P v w (λ i. ap (λ fs. let f : FrameView = get_or fs i no_frame in f.page) same) own
-
-pub seen_own : (P : PageId → Type 0) (n m : NodeState) → SameView n m → HasOnly P (view_of n.pool)
-    → HasOnly P (view_of m.pool)
-seen_own P n m same own =
-    same_own P (view_of n.pool) (view_of m.pool) (ap (λ (v : NodeView). v.pool.frames) same) own
 
 -- ---- zeros
 
@@ -66,51 +56,52 @@ zeroed_own P n m p slot is own known pinned = record {
   ];
 }
 
-pub stays_own : (P : PageId → Type 0) (n m : NodeState) → HasOnly P (view_of n.pool)
-    → KeepsKnown n m → SameButFailures (view_of n.pool) (view_of m.pool) → OnlyPool P n m
-stays_own P n m own known stays = record {
+-- such a pin was refused
+pub unzeroed_own : (P : PageId → Type 0) (n m : NodeState) (p : PageId) (why : NodeFault)
+    → HasOnly P (view_of n.pool) → KeepsKnown n m
+    → OfPool (λ fault. UnreadPinFails n.history p n.pool fault m.pool) why → OnlyPool P n m
+unzeroed_own P n m p why own known refused = record {
   alone = known_pool n m known;
-  own = same_own P (view_of n.pool) (view_of m.pool) (ap (λ (x : PoolView). x.frames) stays) own;
+  own = same_own P (view_of n.pool) (view_of m.pool) (of_pool (λ fault. UnreadPinFails n.history p n.pool fault m.pool) why refused (λ fault is fails. ap (λ (x : PoolView). x.frames) fails.stays)) own;
 }
 
 -- ---- writing back
 
-pub some_own : (P : PageId → Type 0) (n m : NodeState) (limit : ℕ) (result : Result ℕ NodeFault)
-    → HasOnly P (view_of n.pool) → KeepsKnown n m → OnOk result (SameView n m)
-    → IfErr result (λ why. (why ≡ Pool Fault) × SomeFails limit n.pool m.pool) → OnlyPool P n m
-some_own P n m limit (Ok left) own known same refused =
-    record { alone = known_pool n m known; own = seen_own P n m same own }
-some_own P n m limit (Err why) own known same refused = record {
-  alone = known_pool n m known;
-  own = same_own P (view_of n.pool) (view_of m.pool) (ap (λ (x : PoolView). x.frames) refused.1.fails.becomes) own;
+-- both outcomes leave the frames that a caller sees unchanged
+asked_own : {T : Type 0} (P : PageId → Type 0) (does : PoolState → T → PoolState → Type 0)
+    (fails : PoolState → PoolFault → PoolState → Type 0) (n m : NodeState)
+    (result : Result T NodeFault) → HasOnly P (view_of n.pool) → AsksPool does fails n result m
+    → ((x : T) → does n.pool x m.pool → (view_of m.pool).frames ≡ (view_of n.pool).frames)
+    → ((why : PoolFault) → fails n.pool why m.pool → (view_of m.pool).frames ≡ (view_of n.pool).frames)
+    → OnlyPool P n m
+asked_own P does fails n m result own asked if_done if_refused = record {
+  alone = known_pool n m asked.known;
+  own = same_own P (view_of n.pool) (view_of m.pool) (either_asked does fails n result m asked if_done if_refused) own;
 }
+
+pub some_own : (P : PageId → Type 0) (n m : NodeState) (limit : ℕ) (result : Result ℕ NodeFault)
+    → HasOnly P (view_of n.pool) → AsksPool (WritesSomeBack limit) (WriteSomeFails limit) n result m
+    → OnlyPool P n m
+some_own P n m limit result own asked =
+    asked_own P (WritesSomeBack limit) (WriteSomeFails limit) n m result own asked (λ left done. ap (λ (x : PoolView). x.frames) done.same) (λ why fails. ap (λ (x : PoolView). x.frames) fails.cause.1.fails.becomes)
 
 pub page_own : (P : PageId → Type 0) (n m : NodeState) (page : PageId)
-    (result : Result Bool NodeFault) → HasOnly P (view_of n.pool) → KeepsKnown n m
-    → OnOk result (SameView n m)
-    → IfErr result (λ why. (why ≡ Pool Fault) × PageFails n.pool page m.pool) → OnlyPool P n m
-page_own P n m page (Ok was_dirty) own known same refused =
-    record { alone = known_pool n m known; own = seen_own P n m same own }
-page_own P n m page (Err why) own known same refused = record {
-  alone = known_pool n m known;
-  own = same_own P (view_of n.pool) (view_of m.pool) (ap (λ (x : PoolView). x.frames) refused.1.fails.becomes) own;
-}
+    (result : Result Bool NodeFault) → HasOnly P (view_of n.pool)
+    → AsksPool (WritesPageBack page) (WritePageFails page) n result m → OnlyPool P n m
+page_own P n m page result own asked =
+    asked_own P (WritesPageBack page) (WritePageFails page) n m result own asked (λ was_dirty done. ap (λ (x : PoolView). x.frames) done.same) (λ why fails. ap (λ (x : PoolView). x.frames) fails.cause.1.fails.becomes)
 
-flush_refused : (P : PageId → Type 0) (n m : NodeState) (dev : ℕ) (why : PoolFault)
-    → HasOnly P (view_of n.pool) → FlushRefused n.pool dev why m.pool → HasOnly P (view_of m.pool)
-flush_refused P n m dev NoDevice own refused = subst (λ (s : PoolState). HasOnly P (view_of s)) (sym refused.1) own
-flush_refused P n m dev Fault own refused = same_own P (view_of n.pool) (view_of m.pool) (ap (λ (x : PoolView). x.frames) refused.1.becomes) own
-flush_refused P n m dev why own refused = absurd refused
+flush_frames : (s t : PoolState) (dev : ℕ) (why : PoolFault) → FlushRefused s dev why t
+    → (view_of t).frames ≡ (view_of s).frames
+flush_frames s t dev NoDevice refused = ap (λ (x : PoolState). (view_of x).frames) refused.1
+flush_frames s t dev Fault refused = ap (λ (x : PoolView). x.frames) refused.1.becomes
+flush_frames s t dev why refused = absurd refused
 
 pub flushed_own : (P : PageId → Type 0) (n m : NodeState) (dev : ℕ) (result : Result Unit NodeFault)
-    → HasOnly P (view_of n.pool) → KeepsKnown n m → OnOk result (SameView n m)
-    → IfErr result (OfPool (λ fault. FlushRefused n.pool dev fault m.pool)) → OnlyPool P n m
-flushed_own P n m dev (Ok given) own known same refused =
-    record { alone = known_pool n m known; own = seen_own P n m same own }
-flushed_own P n m dev (Err (Pool why)) own known same refused =
-    record { alone = known_pool n m known; own = flush_refused P n m dev why own refused }
-flushed_own P n m dev (Err Memory) own known same refused = absurd refused
-flushed_own P n m dev (Err StaleSlot) own known same refused = absurd refused
+    → HasOnly P (view_of n.pool)
+    → AsksPool (λ s _. SettlesDevice dev s) (FlushDeviceFails dev) n result m → OnlyPool P n m
+flushed_own P n m dev result own asked =
+    asked_own P (λ s _. SettlesDevice dev s) (FlushDeviceFails dev) n m result own asked (λ given done. ap (λ (x : PoolView). x.frames) done.same) (λ why fails. flush_frames n.pool m.pool dev why fails.cause)
 
 -- ---- pages that leave
 

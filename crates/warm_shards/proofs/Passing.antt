@@ -25,13 +25,14 @@ use Rattle.warm_gossip.specs.declared.fault.NodeFault.TheVariants.{Pool}
 use Rattle.warm_gossip.specs.Clauses.{DevicesAfter, Goes, OfPool}
 use Rattle.warm_gossip.specs.State.{NodeState, NodeView, node_view}
 use Rattle.warm_gossip.specs.Step.{IsFailed, OnPool, Step}
+use Rattle.warm_gossip.proofs.EngineLemmas.{known_pool}
 use Rattle.warm_shards.specs.Shards.{AreShards, IsShard, IsShardCount, held, no_shard, shard_at, shard_of, whole}
 use Rattle.warm_shards.specs.Through.{DeviceFails, HasFixed, HasForgotten, IsClean, IsUnchanged, IsWritten, OfEach, OfFirst, RestartRefused, RestartStops, Rises, ShardFlushFails, ShardForgetsPages, ShardRestarts, ShardSettles, ShardWriteFails}
 use Rattle.warm_shards.specs.Through.{ShardsAreUnfixed, StopsAtShard, WriteBackStops}
 use Rattle.warm_shards.proofs.Absorbing.{some_shards}
 use Rattle.warm_shards.proofs.Buckets.{shard_horizon}
 use Rattle.warm_shards.proofs.Calls.{HasOnly, pool_shard, read_at, same_shard}
-use Rattle.warm_shards.proofs.EngineCalls.{forgotten_own, known_pool, same_own}
+use Rattle.warm_shards.proofs.EngineCalls.{forgotten_own, same_own}
 use Rattle.warm_shards.proofs.Keeping.{all_shards, at_each}
 use Rattle.warm_shards.proofs.PoolCalls.{OnlyPool}
 use Rattle.warm_shards.proofs.Taking.{none_joined}

@@ -62,8 +62,3 @@ pub record SameShards (old new : List NodeState) : Type 0 where
 -- all shards but this one are unchanged
 abbrev pub KeepsOtherShards : List NodeState → ℕ → List NodeState → Type 0
 KeepsOtherShards old i new = new ≡ slice_set old i (shard_at new i)
-
--- its id and its history are unchanged
-pub record KeepsKnown (old new : NodeState) : Type 0 where
-  pub id : new.id ≡ old.id
-  pub history : new.history ≡ old.history

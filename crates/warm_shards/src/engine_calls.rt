@@ -1,21 +1,16 @@
 //! What an engine asks of the pool of one shard beside the calls.
-ghost use Rattle.std.specs.Prelude.{◌≡◌, ◌≢◌, ◌<◌, length, IfErr, IfOk, OnErr, OnOk};
-ghost use Rattle.warm_gossip.specs.Clauses.{Answered, OfPool, SameView};
+ghost use Rattle.std.specs.Prelude.{◌≡◌, ◌<◌, length, IfErr, IfOk, OnOk};
+ghost use Rattle.warm_gossip.specs.Clauses.{Answered, OfPool};
+ghost use Rattle.warm_gossip.specs.Engine.{AsksPool, KeepsKnown};
 ghost use Rattle.warm_gossip.specs.declared.call.Call.TheVariants.{Pin};
 ghost use Rattle.warm_gossip.specs.declared.call.Reply.TheVariants.{Pinned};
-ghost use Rattle.warm_gossip.specs.declared.fault.NodeFault.TheVariants.{Pool};
-ghost use Rattle.warm_pool.specs.HandingBack.{HandsBackOne};
-ghost use Rattle.warm_pool.specs.Keeping.{KeepsFrames, SameButFailures};
-ghost use Rattle.warm_pool.specs.Calls.{FlushesNone, FlushesOnce, ReadsNone};
 ghost use Rattle.warm_pool.specs.Filling.{AreFromDevice, TakesFilled};
-ghost use Rattle.warm_pool.specs.Retiring.{KeepsElsewhere, RetireRefused, Retired};
+ghost use Rattle.warm_pool.specs.Outcomes.{FlushDeviceFails, ReplacesDevice, RetireFails};
+ghost use Rattle.warm_pool.specs.Outcomes.{RetiresDevice, SettlesDevice, UnreadPinFails};
+ghost use Rattle.warm_pool.specs.Outcomes.{WritePageFails, WriteSomeFails, WritesPageBack};
+ghost use Rattle.warm_pool.specs.Outcomes.{WritesSomeBack, ZeroesPage};
 ghost use Rattle.warm_pool.specs.View.{Holds, view_of};
-ghost use Rattle.warm_pool.specs.WritingSome.{FlushRefused, IsSettledOn, KeepsOtherDevices};
-ghost use Rattle.warm_pool.specs.WritingSome.{PageFails, SomeFails, StopsAtDevice};
-ghost use Rattle.warm_pool.specs.WritingSome.{WritesBackPage, WritesBackSome};
-ghost use Rattle.warm_pool.specs.Zeroing.{LeavesUnread, PinnedZeroed, TakesZeroed, ZeroedRefused};
-ghost use Rattle.warm_pool.specs.declared.fault.PoolFault.TheVariants.{Fault, ReadFault};
-ghost use Rattle.warm_shards.specs.Clauses.{KeepsKnown, KeepsOtherShards};
+ghost use Rattle.warm_shards.specs.Clauses.{KeepsOtherShards};
 ghost use Rattle.warm_shards.specs.Shards.{shard_at, shard_of};
 
 use crate::pool_calls::ShardSlot;
@@ -35,32 +30,10 @@ impl<D: PageDevice> Shards<D> {
     /// Those of [`warm_gossip::Node::pin_zeroed`] of the shard, with the same effects.
     pub fn pin_zeroed(&mut self, page: PageId) -> Result<ShardSlot, NodeFault>
         ensures shard { IfOk result (λ at. at.shard ≡ shard_of (length self.old) page) }
-        ensures known { let i = shard_of (length self.old) page in
-            KeepsKnown (shard_at self.old i) (shard_at self.new i) }
-        ensures pinned { let i = shard_of (length self.old) page in
-            let old = shard_at self.old i in
-            IfOk result (λ at. PinnedZeroed old.history (view_of old.pool) page at.slot
-            (view_of (shard_at self.new i).pool)) }
-        ensures holds { let i = shard_of (length self.old) page in
-            IfOk result (λ at. Holds (view_of (shard_at self.new i).pool) at.slot) }
-        ensures frame { let i = shard_of (length self.old) page in
-            IfOk result (λ at. TakesZeroed (shard_at self.old i).pool page at.slot
-            (shard_at self.new i).pool) }
-        ensures refused { let i = shard_of (length self.old) page in
-            let old = shard_at self.old i in
-            IfErr result (OfPool (λ fault. ZeroedRefused old.history (view_of old.pool) page fault
-            (view_of (shard_at self.new i).pool))) }
-        ensures stays { let i = shard_of (length self.old) page in
-            OnErr result (SameButFailures (view_of (shard_at self.old i).pool)
-            (view_of (shard_at self.new i).pool)) }
-        ensures frames { let i = shard_of (length self.old) page in
-            OnErr result (KeepsFrames (shard_at self.old i).pool (shard_at self.new i).pool) }
-        ensures devices { let i = shard_of (length self.old) page in
-            let old = shard_at self.old i in
-            IfErr result (OfPool (λ fault. LeavesUnread old.history old.pool fault
-            (shard_at self.new i).pool)) }
-        ensures unflushed { let i = shard_of (length self.old) page in
-            FlushesNone (shard_at self.old i).pool.devices (shard_at self.new i).pool.devices }
+        ensures asked { let i = shard_of (length self.old) page in
+            let h = (shard_at self.old i).history in
+            AsksPool (λ old at. ZeroesPage h page old at.slot) (UnreadPinFails h page)
+            (shard_at self.old i) result (shard_at self.new i) }
         ensures others { KeepsOtherShards self.old (shard_of (length self.old) page) self.new }
     {
         let shard = self.shard_of(page);
@@ -91,20 +64,10 @@ impl<D: PageDevice> Shards<D> {
         ensures frame { let i = shard_of (length self.old) page in
             IfOk result (λ at. TakesFilled (shard_at self.old i).pool page bytes.now at.slot
             (shard_at self.new i).pool) }
-        ensures no_read_fault { IfErr result (OfPool (λ fault. fault ≢ ReadFault)) }
-        ensures stays { let i = shard_of (length self.old) page in
-            OnErr result (SameButFailures (view_of (shard_at self.old i).pool)
-            (view_of (shard_at self.new i).pool)) }
-        ensures frames { let i = shard_of (length self.old) page in
-            OnErr result (KeepsFrames (shard_at self.old i).pool (shard_at self.new i).pool) }
-        ensures devices { let i = shard_of (length self.old) page in
+        ensures refused { let i = shard_of (length self.old) page in
             let old = shard_at self.old i in
-            IfErr result (OfPool (λ fault. LeavesUnread old.history old.pool fault
+            IfErr result (OfPool (λ why. UnreadPinFails old.history page old.pool why
             (shard_at self.new i).pool)) }
-        ensures unread { let i = shard_of (length self.old) page in
-            ReadsNone (shard_at self.old i).pool.devices (shard_at self.new i).pool.devices }
-        ensures unflushed { let i = shard_of (length self.old) page in
-            FlushesNone (shard_at self.old i).pool.devices (shard_at self.new i).pool.devices }
         ensures others { KeepsOtherShards self.old (shard_of (length self.old) page) self.new }
     {
         let shard = self.shard_of(page);
@@ -123,14 +86,8 @@ impl<D: PageDevice> Shards<D> {
     /// Those of [`warm_gossip::Node::write_back_some`] of the shard, with the same effects.
     pub fn write_back_some(&mut self, shard: usize, limit: usize) -> Result<usize, NodeFault>
         requires there { shard < length self.old }
-        ensures known { KeepsKnown (shard_at self.old shard) (shard_at self.new shard) }
-        ensures same { OnOk result (SameView (shard_at self.old shard) (shard_at self.new shard)) }
-        ensures written { IfOk result (λ left. WritesBackSome limit (shard_at self.old shard).pool
-            left (shard_at self.new shard).pool) }
-        ensures refused { IfErr result (λ why. (why ≡ Pool Fault)
-            × SomeFails limit (shard_at self.old shard).pool (shard_at self.new shard).pool) }
-        ensures unflushed { FlushesNone (shard_at self.old shard).pool.devices
-            (shard_at self.new shard).pool.devices }
+        ensures asked { AsksPool (WritesSomeBack limit) (WriteSomeFails limit)
+            (shard_at self.old shard) result (shard_at self.new shard) }
         ensures others { KeepsOtherShards self.old shard self.new }
     {
         self.nodes[shard].write_back_some(limit)
@@ -142,18 +99,9 @@ impl<D: PageDevice> Shards<D> {
     /// # Errors
     /// Those of [`warm_gossip::Node::write_back_page`] of the shard, with the same effects.
     pub fn write_back_page(&mut self, page: PageId) -> Result<bool, NodeFault>
-        ensures known { let i = shard_of (length self.old) page in
-            KeepsKnown (shard_at self.old i) (shard_at self.new i) }
-        ensures same { let i = shard_of (length self.old) page in
-            OnOk result (SameView (shard_at self.old i) (shard_at self.new i)) }
-        ensures written { let i = shard_of (length self.old) page in
-            IfOk result (λ was_dirty. WritesBackPage (shard_at self.old i).pool page was_dirty
-            (shard_at self.new i).pool) }
-        ensures refused { let i = shard_of (length self.old) page in
-            IfErr result (λ why. (why ≡ Pool Fault)
-            × PageFails (shard_at self.old i).pool page (shard_at self.new i).pool) }
-        ensures unflushed { let i = shard_of (length self.old) page in
-            FlushesNone (shard_at self.old i).pool.devices (shard_at self.new i).pool.devices }
+        ensures asked { let i = shard_of (length self.old) page in
+            AsksPool (WritesPageBack page) (WritePageFails page)
+            (shard_at self.old i) result (shard_at self.new i) }
         ensures others { KeepsOtherShards self.old (shard_of (length self.old) page) self.new }
     {
         let shard = self.shard_of(page);
@@ -167,17 +115,8 @@ impl<D: PageDevice> Shards<D> {
     /// Those of [`warm_gossip::Node::flush_device`] of the shard, with the same effects.
     pub fn flush_device(&mut self, shard: usize, dev: u16) -> Result<(), NodeFault>
         requires there { shard < length self.old }
-        ensures known { KeepsKnown (shard_at self.old shard) (shard_at self.new shard) }
-        ensures same { OnOk result (SameView (shard_at self.old shard) (shard_at self.new shard)) }
-        ensures settled { OnOk result (IsSettledOn dev (shard_at self.new shard).pool) }
-        ensures refused { IfErr result (OfPool (λ fault. FlushRefused (shard_at self.old shard).pool
-            dev fault (shard_at self.new shard).pool)) }
-        ensures elsewhere { KeepsElsewhere dev (shard_at self.old shard).pool
-            (shard_at self.new shard).pool }
-        ensures devices { KeepsOtherDevices dev (shard_at self.old shard).pool
-            (shard_at self.new shard).pool }
-        ensures once { FlushesOnce (shard_at self.old shard).pool.devices
-            (shard_at self.new shard).pool.devices }
+        ensures asked { AsksPool (λ old _. SettlesDevice dev old) (FlushDeviceFails dev)
+            (shard_at self.old shard) result (shard_at self.new shard) }
         ensures others { KeepsOtherShards self.old shard self.new }
     {
         self.nodes[shard].flush_device(dev)
@@ -193,18 +132,11 @@ impl<D: PageDevice> Shards<D> {
     pub fn replace(&mut self, shard: usize, dev: u16, device: D) -> Result<D, RetireError<D>>
         requires there { shard < length self.old }
         ensures known { KeepsKnown (shard_at self.old shard) (shard_at self.new shard) }
-        ensures retired { OnOk result (Retired (view_of (shard_at self.old shard).pool) dev
-            (D.state device) (view_of (shard_at self.new shard).pool)) }
-        ensures handed_back { IfOk result (λ old. HandsBackOne (shard_at self.old shard).pool dev
-            (D.state old)) }
-        ensures refused { IfErr result (λ unretired. RetireRefused
-            (view_of (shard_at self.old shard).pool) dev (D.state device) unretired.fault
-            (view_of (shard_at self.new shard).pool)) }
-        ensures stopped { IfErr result (λ unretired. unretired.fault ≡ Fault
-            → StopsAtDevice dev (shard_at self.old shard).pool (shard_at self.new shard).pool) }
+        ensures done { IfOk result (λ was. ReplacesDevice dev (D.state device)
+            (shard_at self.old shard).pool (D.state was) (shard_at self.new shard).pool) }
+        ensures refused { IfErr result (λ unretired. RetireFails dev (D.state device)
+            (shard_at self.old shard).pool unretired.fault (shard_at self.new shard).pool) }
         ensures given_back { IfErr result (λ unretired. unretired.device ≡ device) }
-        ensures elsewhere { KeepsElsewhere dev (shard_at self.old shard).pool
-            (shard_at self.new shard).pool }
         ensures others { KeepsOtherShards self.old shard self.new }
     {
         self.nodes[shard].replace(dev, device)
@@ -219,16 +151,11 @@ impl<D: PageDevice> Shards<D> {
     pub fn retire(&mut self, shard: usize, dev: u16, device: D) -> Result<(), RetireError<D>>
         requires there { shard < length self.old }
         ensures known { KeepsKnown (shard_at self.old shard) (shard_at self.new shard) }
-        ensures retired { OnOk result (Retired (view_of (shard_at self.old shard).pool) dev
-            (D.state device) (view_of (shard_at self.new shard).pool)) }
-        ensures refused { IfErr result (λ unretired. RetireRefused
-            (view_of (shard_at self.old shard).pool) dev (D.state device) unretired.fault
-            (view_of (shard_at self.new shard).pool)) }
-        ensures stopped { IfErr result (λ unretired. unretired.fault ≡ Fault
-            → StopsAtDevice dev (shard_at self.old shard).pool (shard_at self.new shard).pool) }
+        ensures done { OnOk result (RetiresDevice dev (D.state device)
+            (shard_at self.old shard).pool (shard_at self.new shard).pool) }
+        ensures refused { IfErr result (λ unretired. RetireFails dev (D.state device)
+            (shard_at self.old shard).pool unretired.fault (shard_at self.new shard).pool) }
         ensures given_back { IfErr result (λ unretired. unretired.device ≡ device) }
-        ensures elsewhere { KeepsElsewhere dev (shard_at self.old shard).pool
-            (shard_at self.new shard).pool }
         ensures others { KeepsOtherShards self.old shard self.new }
     {
         self.nodes[shard].retire(dev, device)

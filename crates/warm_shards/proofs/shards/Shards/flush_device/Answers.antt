@@ -11,4 +11,4 @@ invariant_of-self g c =
     let i = c.args.shard in
     let lt : i < length ns = subst (λ (xs : List NodeState). i < length xs) (sym c.self.view_is) c.requires.there in
     after_call ns i c.index_mut.result.now c.flush_device.new.self c.index_mut.result.now c.self.invariant lt c.index_mut.ensures.value (λ old.
-    flushed_own (λ p. shard_of (length ns) p ≡ i) c.index_mut.result.now c.flush_device.new.self c.args.dev c.flush_device.result old.own.resident (record { id = c.flush_device.ensures.id; history = c.flush_device.ensures.history }) c.flush_device.ensures.same c.flush_device.ensures.refused)
+    flushed_own (λ p. shard_of (length ns) p ≡ i) c.index_mut.result.now c.flush_device.new.self c.args.dev c.flush_device.result old.own.resident c.flush_device.ensures.asked)

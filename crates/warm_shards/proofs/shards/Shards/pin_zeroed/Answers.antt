@@ -2,7 +2,7 @@ use Rattle.std.proofs.Common.{◌≡◌, ◌<◌, List, length, sym, ap, subst, 
 use Rattle.warm_gossip.specs.State.{NodeState}
 use Rattle.warm_shards.specs.Shards.{shard_of}
 use Rattle.warm_shards.proofs.PoolCalls.{after_call}
-use Rattle.warm_shards.proofs.EngineCalls.{stays_own, zeroed_own}
+use Rattle.warm_shards.proofs.EngineCalls.{unzeroed_own, zeroed_own}
 use Rattle.warm_shards.proofs.shards.Shards.pin_zeroed.Goals as goal
 
 pub invariant_of-self : goal.invariant_of-self
@@ -11,7 +11,7 @@ invariant_of-self g c =
     let i = c.shard_of-shard.result in
     let lt : i < length ns = subst (λ (xs : List NodeState). i < length xs) (sym c.self.view_is) c.shard_of-shard.ensures.below in
     after_call ns i c.index_mut.result.now c.pin_zeroed.new.self c.index_mut.result.now c.self.invariant lt c.index_mut.ensures.value (λ old.
-    stays_own (λ p. shard_of (length ns) p ≡ i) c.index_mut.result.now c.pin_zeroed.new.self old.own.resident (record { id = c.in_err-slot.ensures.id; history = c.in_err-slot.ensures.history }) c.in_err-slot.ensures.stays)
+    unzeroed_own (λ p. shard_of (length ns) p ≡ i) c.index_mut.result.now c.pin_zeroed.new.self c.args.page c.in_err-slot.field-0.0 old.own.resident c.pin_zeroed.ensures.known c.in_err-slot.ensures.refused)
 
 pub invariant_of-self-2 : goal.invariant_of-self-2
 invariant_of-self-2 g c =
@@ -20,4 +20,4 @@ invariant_of-self-2 g c =
     let lt : i < length ns = subst (λ (xs : List NodeState). i < length xs) (sym c.self.view_is) c.shard_of-shard.ensures.below in
     let is : shard_of (length ns) c.args.page ≡ i = ap (λ (xs : List NodeState). shard_of (length xs) c.args.page) c.self.view_is ∙ sym c.shard_of-shard.ensures.value in
     after_call ns i c.index_mut.result.now c.pin_zeroed.new.self c.index_mut.result.now c.self.invariant lt c.index_mut.ensures.value (λ old.
-    zeroed_own (λ p. shard_of (length ns) p ≡ i) c.index_mut.result.now c.pin_zeroed.new.self c.args.page c.in_ok-slot.slot is old.own.resident (record { id = c.in_ok-slot.ensures.id; history = c.in_ok-slot.ensures.history }) c.in_ok-slot.ensures.pinned)
+    zeroed_own (λ p. shard_of (length ns) p ≡ i) c.index_mut.result.now c.pin_zeroed.new.self c.args.page c.in_ok-slot.slot is old.own.resident c.pin_zeroed.ensures.known c.in_ok-slot.ensures.done.pinned)

@@ -1,4 +1,5 @@
 use Rattle.std.proofs.Common.{◌≡◌, ◌<◌, List, length, sym, subst}
+use Rattle.warm_pool.proofs.FlushLemmas.{if_err, if_ok}
 use Rattle.warm_gossip.specs.State.{NodeState}
 use Rattle.warm_shards.specs.Shards.{shard_of}
 use Rattle.warm_shards.proofs.PoolCalls.{after_call}
@@ -11,4 +12,4 @@ invariant_of-self g c =
     let i = c.args.shard in
     let lt : i < length ns = subst (λ (xs : List NodeState). i < length xs) (sym c.self.view_is) c.requires.there in
     after_call ns i c.index_mut.result.now c.replace.new.self c.index_mut.result.now c.self.invariant lt c.index_mut.ensures.value (λ old.
-    retired_own (λ p. shard_of (length ns) p ≡ i) c.index_mut.result.now c.replace.new.self c.args.dev (g.D.PageDevice.state c.args.device) (λ e. e.fault) c.replace.result old.own.resident (record { id = c.replace.ensures.id; history = c.replace.ensures.history }) c.replace.ensures.retired c.replace.ensures.refused)
+    retired_own (λ p. shard_of (length ns) p ≡ i) c.index_mut.result.now c.replace.new.self c.args.dev (g.D.PageDevice.state c.args.device) (λ e. e.fault) c.replace.result old.own.resident c.replace.ensures.known (if_ok _ _ c.replace.result c.replace.ensures.done (λ given done. done.retires.retired)) (if_err _ _ c.replace.result c.replace.ensures.refused (λ e fails. fails.cause)))

@@ -11,4 +11,4 @@ invariant_of-self g c =
     let i = c.shard_of-shard.result in
     let lt : i < length ns = subst (λ (xs : List NodeState). i < length xs) (sym c.self.view_is) c.shard_of-shard.ensures.below in
     after_call ns i c.index_mut.result.now c.write_back_page.new.self c.index_mut.result.now c.self.invariant lt c.index_mut.ensures.value (λ old.
-    page_own (λ p. shard_of (length ns) p ≡ i) c.index_mut.result.now c.write_back_page.new.self c.args.page c.write_back_page.result old.own.resident (record { id = c.write_back_page.ensures.id; history = c.write_back_page.ensures.history }) c.write_back_page.ensures.same c.write_back_page.ensures.refused)
+    page_own (λ p. shard_of (length ns) p ≡ i) c.index_mut.result.now c.write_back_page.new.self c.args.page c.write_back_page.result old.own.resident c.write_back_page.ensures.asked)

@@ -11,4 +11,4 @@ invariant_of-self g c =
     let i = c.args.shard in
     let lt : i < length ns = subst (λ (xs : List NodeState). i < length xs) (sym c.self.view_is) c.requires.there in
     after_call ns i c.index_mut.result.now c.write_back_some.new.self c.index_mut.result.now c.self.invariant lt c.index_mut.ensures.value (λ old.
-    some_own (λ p. shard_of (length ns) p ≡ i) c.index_mut.result.now c.write_back_some.new.self c.args.limit c.write_back_some.result old.own.resident (record { id = c.write_back_some.ensures.id; history = c.write_back_some.ensures.history }) c.write_back_some.ensures.same c.write_back_some.ensures.refused)
+    some_own (λ p. shard_of (length ns) p ≡ i) c.index_mut.result.now c.write_back_some.new.self c.args.limit c.write_back_some.result old.own.resident c.write_back_some.ensures.asked)
