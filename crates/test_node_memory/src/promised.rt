@@ -48,9 +48,10 @@ pub(crate) fn play<P: Print, R: Wait>(
     let filled = Filled::new(alloc)?;
     let posts = Posts::new(alloc)?;
     let (shared, thread) = shared::opened(alloc)?;
+    let other = memory(alloc, 4)?;
     let (replica, worker, slot) = workers::opened(alloc)?;
     // from here on nothing is allocated
-    shared::rows(rt, met, waits, shared, thread)?;
+    shared::rows(rt, met, waits, shared, thread, other)?;
     workers::rows(rt, met, waits, replica, worker, slot)?;
     calls::rows(rt, met, &mut node, ByteList::of(bytes))?;
     sharded.rows(rt, met, alloc)?;

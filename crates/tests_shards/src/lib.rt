@@ -15,6 +15,8 @@ mod forming;
 #[cfg(test)]
 mod gossip_shared;
 #[cfg(test)]
+mod history_shared;
+#[cfg(test)]
 mod kit;
 #[cfg(test)]
 mod looking;
@@ -22,6 +24,8 @@ mod looking;
 mod pages;
 #[cfg(test)]
 mod refused;
+#[cfg(test)]
+mod retired_shared;
 #[cfg(test)]
 mod shared;
 #[cfg(test)]

@@ -3,7 +3,7 @@ use Rattle.std.proofs.Common.{◌≡◌, ℕ, refl}
 use Rattle.warm_gossip.specs.declared.fault.NodeFault.{NodeFault}
 use Rattle.warm_gossip.specs.State.{NodeState}
 use Rattle.warm_concurrent.specs.declared.call.ShardCall.{ShardCall}
-use Rattle.warm_concurrent.specs.declared.call.ShardCall.TheVariants.{Absorb, ForgetPages, Write, WriteBack, WritePages}
+use Rattle.warm_concurrent.specs.declared.call.ShardCall.TheVariants.{Absorb, ForgetPages, TakeIn, Write, WriteBack, WritePages}
 use Rattle.warm_concurrent.specs.declared.call.ShardReply.{ShardReply}
 use Rattle.warm_concurrent.specs.declared.call.ShardReply.TheVariants.{Changed, Copied, Dirty, Done, Foreign, Looked, Portion, Refused}
 use Rattle.warm_concurrent.specs.Clauses.{IsDoneCall, MayAnswer}
@@ -13,6 +13,7 @@ module _ (count i : ℕ) where
   -- such a call brings pages of the shard alone
   done_own : (c : ShardCall) → IsDoneCall count i c → IsOwn count i c
   done_own (Absorb batch) done = done
+  done_own (TakeIn horizon entries) done = done
   done_own (Write slot at bytes) done = tt
   done_own WritePages done = tt
   done_own WriteBack done = tt
@@ -39,6 +40,7 @@ module _ (count i : ℕ) where
   done_goes x y (Write slot at bytes) (Changed there before after) done goes not_done not_refused = goes
   done_goes x y (Write slot at bytes) Foreign done goes not_done not_refused = goes
   done_goes x y (Write slot at bytes) r done goes not_done not_refused = goes.0
+  done_goes x y (TakeIn horizon entries) r done goes not_done not_refused = goes
   done_goes x y WritePages r done goes not_done not_refused = goes
   done_goes x y WriteBack r done goes not_done not_refused = goes
   done_goes x y (ForgetPages dev from) r done goes not_done not_refused = goes

@@ -219,9 +219,9 @@ none_twice old mid new one other =
 -- what a shard takes in of a message
 part_gives : (count : ℕ) (message : Message) (i : ℕ) (old new : ShardPass)
     → TakesPart count message i old new → Gives (of_shard count i (refs_in message)) old new
-part_gives count message i old new (answers, got) =
+part_gives count message i old new got =
     gives_as (refs_in (part_of_message count i message)) (of_shard count i (refs_in message)) old new (message_part count i message)
-    (gives_called old new (part_call count message i) (Answers answers) got)
+    (gives_called old new (part_call count message i) Done got)
 
 pub taken_each : (message : Message) (k : ℕ) (old new : List ShardPass) → TakesFirst message k old new
     → EachGives (λ i. of_shard (length old) i (refs_in message)) k old new

@@ -1,25 +1,23 @@
 -- All shards together have what they were given.
-use Rattle.std.proofs.Common.{◌≡◌, ℕ, zero, suc, ◌<◌, List, [], ◌∷◌, ◌++◌, length, map, get_or, Result, Ok, refl, sym, ap, subst, ◌∙◌, arith, append_assoc}
+use Rattle.std.proofs.Common.{◌≡◌, ℕ, zero, suc, ◌<◌, List, [], ◌∷◌, ◌++◌, length, map, get_or, Result, Ok, refl, sym, ap, subst, ◌∙◌, arith}
 use Rattle.std.proofs.lemmas.List.{get_or-map, length-append, length-map}
 use Rattle.warm_history.specs.ReferenceSets.{ReferenceSet, ◌∪◌}
 use Rattle.warm_history.specs.Histories.{StandsFor, history, references_of}
 use Rattle.warm_history.proofs.JoinLemmas.{both_assoc, history_first, history_of_own_references, history_second}
 use Rattle.warm_turn.specs.declared.fault.Busy.{Busy}
-use Rattle.warm_machine.specs.declared.operation.Operation.{Operation}
 use Rattle.warm_machine.specs.Runs.{Runs}
-use Rattle.warm_gossip.specs.Given.{given_by_calls}
 use Rattle.warm_gossip.specs.State.{NodeState}
 use Rattle.warm_shards.specs.Shards.{held, no_shard, shard_at, whole}
 use Rattle.warm_shards.proofs.Taking.{last_two}
 use Rattle.warm_concurrent.specs.declared.call.ShardCall.{ShardCall}
 use Rattle.warm_concurrent.specs.declared.call.ShardCall.TheVariants.{Absorb, Answer, Change, CopyHistory, ForgetPages, Look, Offer, Pin, PinZeroed, Raise, Read, Retire, Send, SendSince, TakeIn, Unpin, Victim, WarmList, WarmStep, Write, WriteBack, WritePages, WriteSome}
 use Rattle.warm_concurrent.specs.declared.call.ShardReply.{ShardReply}
-use Rattle.warm_concurrent.specs.declared.call.ShardReply.TheVariants.{Answers, Done, Foreign, Kept}
+use Rattle.warm_concurrent.specs.declared.call.ShardReply.TheVariants.{Done, Foreign, Kept}
 use Rattle.warm_concurrent.specs.Attached.{Known, ShardPass, ShardTurn, known_of, shard_turn}
 use Rattle.warm_concurrent.specs.Given.{IsLog, Log, SharedIsOfGiven, gave, gave_call, gave_together, log_at}
-use Rattle.warm_concurrent.specs.Laws.{asked_steps, calls_in, call_operations, given_to_shard, node_steps}
+use Rattle.warm_concurrent.specs.Laws.{asked_steps, given_by_steps, given_to_shard, node_steps}
 use Rattle.warm_concurrent.specs.Opening.{AreClosed, ClosesShard, openings, shards_over, state_at}
-use Rattle.warm_concurrent.specs.ShardSteps.{ShardState, ShardStep, Work, asked_of}
+use Rattle.warm_concurrent.specs.ShardSteps.{ShardState, ShardStep, asked_of}
 use Rattle.warm_concurrent.proofs.Holding.{node_at}
 use Rattle.warm_concurrent.proofs.LawsHold.{given_after, shard_is_of_given}
 use Rattle.warm_concurrent.proofs.Numbering.{from_long, opening_at}
@@ -29,14 +27,14 @@ use Rattle.warm_concurrent.proofs.Sets.{union_none}
 -- ---- what a call gave, and what it gave the node
 
 call_gave : (S : ReferenceSet) (by : ℕ) (c : ShardCall) (r : ShardReply)
-    → given_by_calls S (calls_in (asked_steps by (asked_of c) r)) ≡ S ∪ gave_call c r
+    → given_by_steps S (asked_steps by (asked_of c) r) ≡ S ∪ gave_call c r
 call_gave S by (Absorb batch) Done = refl
 call_gave S by (Absorb batch) r = sym (union_none S)
 call_gave S by (Raise time) (Kept horizon) = refl
 call_gave S by (Raise time) r = sym (union_none S)
-call_gave S by (TakeIn sender horizon es) (Answers messages) = refl
-call_gave S by (TakeIn sender horizon es) r = sym (union_none S)
-call_gave S by (Answer request) (Answers messages) = refl
+call_gave S by (TakeIn horizon es) Done = refl
+call_gave S by (TakeIn horizon es) r = sym (union_none S)
+call_gave S by (Answer request) Foreign = sym (union_none S)
 call_gave S by (Answer request) r = sym (union_none S)
 call_gave S by (Pin page) Foreign = sym (union_none S)
 call_gave S by (Pin page) r = sym (union_none S)
@@ -77,20 +75,11 @@ call_gave S by (Look page) r = sym (union_none S)
 call_gave S by (Change page) Foreign = sym (union_none S)
 call_gave S by (Change page) r = sym (union_none S)
 
-calls_append : (xs ys : List (Operation Work ShardReply))
-    → calls_in (xs ++ ys) ≡ calls_in xs ++ calls_in ys
-calls_append [] ys = refl
-calls_append (e ∷ xs) ys =
-    ap (λ l. call_operations e.by e.call e.reply ++ l) (calls_append xs ys)
-    ∙ sym (append_assoc (call_operations e.by e.call e.reply) (calls_in xs) (calls_in ys))
-
 pub shard_gave : (S : ReferenceSet) (log : Log) → given_to_shard S log ≡ S ∪ gave log
 shard_gave S [] = sym (union_none S)
 shard_gave S (e ∷ es) =
-    let one = asked_steps e.by (asked_of e.call) e.reply in
-    ap (given_by_calls S) (calls_append one (node_steps es))
-    ∙ sym (given_after S (calls_in one) (calls_in (node_steps es)))
-    ∙ ap (λ T. given_by_calls T (calls_in (node_steps es))) (call_gave S e.by e.call e.reply)
+    sym (given_after S (asked_steps e.by (asked_of e.call) e.reply) (node_steps es))
+    ∙ ap (λ T. given_by_steps T (node_steps es)) (call_gave S e.by e.call e.reply)
     ∙ shard_gave (S ∪ gave_call e.call e.reply) es
     ∙ both_assoc S (gave_call e.call e.reply) (gave es)
 

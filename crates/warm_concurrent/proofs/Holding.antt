@@ -13,6 +13,7 @@ use Rattle.warm_machine.specs.declared.operation.Operation.{Operation}
 use Rattle.warm_machine.specs.Runs.{Runs}
 use Rattle.warm_gossip.specs.declared.call.Call.{Call}
 use Rattle.warm_gossip.specs.declared.call.Reply.{Reply}
+use Rattle.warm_frames.specs.declared.message.Message.TheVariants.{Entries}
 use Rattle.warm_gossip.specs.declared.call.Call.TheVariants as node_call
 use Rattle.warm_gossip.specs.declared.call.Reply.TheVariants as node_reply
 use Rattle.warm_gossip.specs.declared.fault.NodeFault.{NodeFault}
@@ -27,11 +28,11 @@ use Rattle.warm_shards.proofs.Staying.{failures_stay, steps_stay}
 use Rattle.warm_concurrent.specs.declared.call.ShardCall.{ShardCall}
 use Rattle.warm_concurrent.specs.declared.call.ShardCall.TheVariants.{Absorb, Change, Look, Pin, PinZeroed, TakeIn}
 use Rattle.warm_concurrent.specs.declared.call.ShardReply.{ShardReply}
-use Rattle.warm_concurrent.specs.declared.call.ShardReply.TheVariants.{Changed, Copied, Dirty, Done, Foreign, Looked, Pinned, Portion, Refused}
+use Rattle.warm_concurrent.specs.declared.call.ShardReply.TheVariants.{Answers, Changed, Copied, Dirty, Done, Foreign, Looked, Pinned, Portion, Refused}
 use Rattle.warm_concurrent.specs.Attached.{Known, ShardTurn}
 use Rattle.warm_concurrent.specs.Laws.{ShardsHoldTheirPages}
 use Rattle.warm_concurrent.specs.Opening.{ClosesShard, shards_from, shards_over, state_at}
-use Rattle.warm_concurrent.specs.ShardSteps.{Asked, doing, looking, changing, CallGoes, CallStep, IsOwn, NodeGoes, NodeStep, ShardState, ShardStep, Work, calling, writing_pages, writing_some, writing_back, zeroing, forgetting, sending_since, copying, retiring, asked_of, node_reply_of}
+use Rattle.warm_concurrent.specs.ShardSteps.{Asked, doing, looking, changing, CallGoes, CallStep, IsOwn, NodeGoes, NodeStep, ShardState, ShardStep, Work, calling, writing_pages, writing_some, writing_back, zeroing, forgetting, taking_in, answering, sending_since, copying, retiring, asked_of, node_reply_of}
 use Rattle.warm_concurrent.proofs.Steps.{runs_keep}
 
 -- ---- a node after one step
@@ -78,6 +79,7 @@ module _ (count i : ℕ) where
   abbrev BringsWork : Work → Type 0
   BringsWork (calling c) = BringsOwn count i c
   BringsWork (zeroing p) = IsHere p
+  BringsWork (taking_in horizon es) = BringsOwn count i (node_call.Receive (Entries 0 horizon es))
   BringsWork w = Unit {0}
 
   step_own : (n m : NodeState) (w : Work) (r : ShardReply) → BringsWork w → HoldsShard count i n
@@ -104,6 +106,14 @@ module _ (count i : ℕ) where
       let same = same_pool n.pool m.pool dev from why step.1 in
       pool_own n m own step.0 (subst (λ (s : PoolState). HasPagesOf count i (view_of s)) (sym same) own.resident)
   step_own n m (forgetting dev from) r brings own step = absurd step
+  -- as a message that brings them is received
+  step_own n m (taking_in horizon es) Done brings own step =
+      steps_stay count i (node_view n) (node_view m) (node_call.Receive (Entries 0 horizon es)) (node_reply.Answers []) brings own (refl, step.0)
+  step_own n m (taking_in horizon es) (Refused why) brings own step = same_stays n m own step.1
+  step_own n m (taking_in horizon es) r brings own step = absurd step
+  step_own n m (answering request) (Answers messages) brings own step = subst (HoldsShard count i) (sym step.1) own
+  step_own n m (answering request) (Refused why) brings own step = subst (HoldsShard count i) (sym step.1) own
+  step_own n m (answering request) r brings own step = absurd step
   step_own n m (sending_since bucket since after) (Portion message more) brings own step = subst (HoldsShard count i) (sym step.2) own
   step_own n m (sending_since bucket since after) (Refused why) brings own step = subst (HoldsShard count i) (sym step.1) own
   step_own n m (sending_since bucket since after) r brings own step = absurd step
@@ -125,7 +135,7 @@ module _ (count i : ℕ) where
 
   own_asked : (c : ShardCall) → IsOwn count i c → BringsAsked (asked_of c)
   own_asked (Absorb batch) own = own
-  own_asked (TakeIn sender horizon es) own = own
+  own_asked (TakeIn horizon es) own = own
   own_asked (Pin p) own = own
   own_asked (PinZeroed p) own = own
   own_asked (Look p) own = own

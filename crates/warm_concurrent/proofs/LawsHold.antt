@@ -3,20 +3,23 @@ use Rattle.std.specs.Prelude.{slice_index_or}
 use Rattle.std.proofs.Common.{◌≡◌, ◌⊎◌, inl, inr, ℕ, zero, suc, ◌<◌, ◌≤◌, List, [], ◌∷◌, ◌++◌, length, Option, Some, None, refl, sym, ap, subst, ◌∙◌, arith, append-nil}
 use mathlib.Core.List.{IsPrefix}
 use Rattle.warm_history.specs.ReferenceSets.{ReferenceSet, ◌∪◌}
-use Rattle.warm_history.specs.Histories.{history, references_of}
+use Rattle.warm_history.specs.declared.hist.Entry.{Entry}
+use Rattle.warm_history.specs.Histories.{history, history_of_entries_at, references_of}
 use Rattle.warm_history.proofs.JoinLemmas.{history_first, history_second}
 use Rattle.warm_machine.specs.declared.operation.Operation.{Operation}
 use Rattle.warm_machine.specs.Runs.{Runs, operation}
 use Rattle.warm_turn.proofs.Passes.{Extended-called, Widened-joined}
-use Rattle.warm_gossip.specs.Clauses.{NodeWriteBackFails, SameView}
-use Rattle.warm_gossip.specs.Given.{given_by_call, given_by_calls}
+use Rattle.warm_gossip.specs.Clauses.{JoinsEntries, NodeWriteBackFails, SameView}
 use Rattle.warm_gossip.specs.State.{NodeState, NodeView, node_view}
 use Rattle.warm_gossip.specs.declared.call.Call.{Call}
+use Rattle.warm_gossip.specs.declared.call.Call.TheVariants as node_call
 use Rattle.warm_gossip.specs.declared.call.Reply.{Reply}
+use Rattle.warm_gossip.specs.declared.call.Reply.TheVariants as node_reply
 use Rattle.warm_gossip.specs.declared.fault.NodeFault.{NodeFault}
 use Rattle.warm_gossip.specs.declared.fault.NodeFault.TheVariants.{Memory, Pool}
 use Rattle.warm_gossip.proofs.Given.{told_is_history}
 use Rattle.warm_frames.specs.declared.message.Message.{Message}
+use Rattle.warm_frames.specs.declared.message.Message.TheVariants.{Entries}
 use Rattle.warm_stamps.specs.declared.Reference.{Reference}
 use Rattle.warm_concurrent.specs.declared.call.ShardCall.{ShardCall}
 use Rattle.warm_concurrent.specs.declared.call.ShardCall.TheVariants.{Absorb, Answer, Offer}
@@ -25,8 +28,8 @@ use Rattle.warm_concurrent.specs.declared.call.ShardReply.TheVariants.{Answers, 
 use Rattle.warm_concurrent.specs.Answering.{AnswersPart, Offers, offer_at, offer_reply}
 use Rattle.warm_concurrent.specs.Attached.{Known, ShardPass, known_of, no_pass, shard_pass}
 use Rattle.warm_concurrent.specs.Clauses.{AnsweredByShard, Got}
-use Rattle.warm_concurrent.specs.Laws.{CallsAreANodes, OnlySeesMore, SeesMore, ShardIsOfGiven, TogetherAreOfGiven, all_of, asked_steps, call_operations, calls_in, held_by, node_steps, reply_operations}
-use Rattle.warm_concurrent.specs.ShardSteps.{Asked, doing, looking, changing, CallGoes, NodeGoes, NodeStep, ShardState, ShardStep, Work, calling, writing_pages, writing_some, writing_back, zeroing, forgetting, sending_since, copying, retiring, asked_of, node_reply_of}
+use Rattle.warm_concurrent.specs.Laws.{CallsAreANodes, OnlySeesMore, SeesMore, ShardIsOfGiven, TogetherAreOfGiven, all_of, asked_steps, given_by_reply, given_by_step, given_by_steps, held_by, node_steps}
+use Rattle.warm_concurrent.specs.ShardSteps.{Asked, doing, looking, changing, CallGoes, NodeGoes, NodeStep, ShardState, ShardStep, Work, calling, writing_pages, writing_some, writing_back, zeroing, forgetting, taking_in, answering, sending_since, copying, retiring, asked_of, node_reply_of}
 use Rattle.warm_concurrent.specs.Whole.{AbsorbsPart, Does, First, RaisesShard, TakesPart, part_call, part_of}
 use Rattle.warm_concurrent.proofs.Places.{at_each}
 
@@ -40,6 +43,8 @@ not_foreign x y (writing_some limit) step = step
 not_foreign x y writing_back step = step
 not_foreign x y (zeroing p) step = step
 not_foreign x y (forgetting dev from) step = step
+not_foreign x y (taking_in horizon es) step = step
+not_foreign x y (answering request) step = step
 not_foreign x y (sending_since bucket since after) step = step
 not_foreign x y copying step = step
 not_foreign x y (retiring dev told) step = step
@@ -80,18 +85,25 @@ calls_are_a_nodes o z (e ∷ es) runs =
 
 -- ---- what a shard was given
 
-pub given_after : (S : ReferenceSet) (xs ys : List (Operation Call Reply))
-    → given_by_calls (given_by_calls S xs) ys ≡ given_by_calls S (xs ++ ys)
+pub given_after : (S : ReferenceSet) (xs ys : List (Operation Work ShardReply))
+    → given_by_steps (given_by_steps S xs) ys ≡ given_by_steps S (xs ++ ys)
 given_after S [] ys = refl
-given_after S (e ∷ xs) ys = given_after (given_by_call S e.call e.reply) xs ys
+given_after S (e ∷ xs) ys = given_after (given_by_step S e.call e.reply) xs ys
 
 -- after a call a node has the history of what it was given
-call_given : (S : ReferenceSet) (o y : NodeState) (by : ℕ) (c : Call) (k : Option Reply)
-    → o.history ≡ history S → CallGoes o c k y
-    → y.history ≡ history (given_by_calls S (reply_operations by c k))
-call_given S o y by c None stands step = absurd step
-call_given S o y by c (Some r) stands step =
-    told_is_history S (node_view o) (node_view y) (operation by c r ∷ []) stands (node_view y, step.0, refl)
+call_given : (S : ReferenceSet) (o y : NodeState) (c : Call) (k : Option Reply)
+    → o.history ≡ history S → CallGoes o c k y → y.history ≡ history (given_by_reply S c k)
+call_given S o y c None stands step = absurd step
+call_given S o y c (Some r) stands step =
+    told_is_history S (node_view o) (node_view y) (operation 0 c r ∷ []) stands (node_view y, step.0, refl)
+
+-- after it took entries in, it has that of what they bring too, as if it had received them
+taken_given : (S : ReferenceSet) (o y : NodeState) (horizon : ℕ) (es : List Entry)
+    → o.history ≡ history S → JoinsEntries o horizon es y
+    → y.history ≡ history (S ∪ references_of (history_of_entries_at horizon es))
+taken_given S o y horizon es stands joins =
+    let received = operation 0 (node_call.Receive (Entries 0 horizon es)) (node_reply.Answers []) in
+    told_is_history S (node_view o) (node_view y) (received ∷ []) stands (node_view y, (refl, joins), refl)
 
 -- the history that a caller sees is unchanged
 same_history : (o y : NodeState) → SameView o y → y.history ≡ o.history
@@ -101,14 +113,16 @@ failed_history : (o y : NodeState) (why : NodeFault) → NodeWriteBackFails o wh
     → y.history ≡ o.history
 failed_history o y why fails = ap (λ (n : NodeView). n.history) fails.1.0
 
--- so it is beside the calls
+-- so it is beside the calls, and the entries that are taken in
 abbrev IsBeside : Work → Type 0
 IsBeside (calling c) = ⊥
+IsBeside (taking_in horizon es) = ⊥
 IsBeside w = Unit {0}
 
 beside : (o y : NodeState) (w : Work) (r : ShardReply) → IsBeside w → NodeStep o w r y
     → y.history ≡ o.history
 beside o y (calling c) r not step = absurd not
+beside o y (taking_in horizon es) r not step = absurd not
 beside o y writing_pages Done is step = same_history o y step.0
 beside o y writing_pages (Refused why) is step = failed_history o y why step.0
 beside o y writing_pages r is step = absurd step
@@ -124,6 +138,9 @@ beside o y (zeroing p) r is step = absurd step
 beside o y (forgetting dev from) Done is step = step.0.history
 beside o y (forgetting dev from) (Refused why) is step = step.0.history
 beside o y (forgetting dev from) r is step = absurd step
+beside o y (answering request) (Answers messages) is step = ap (λ (n : NodeState). n.history) step.1
+beside o y (answering request) (Refused why) is step = ap (λ (n : NodeState). n.history) step.1
+beside o y (answering request) r is step = absurd step
 beside o y (sending_since bucket since after) (Portion message more) is step = ap (λ (n : NodeState). n.history) step.2
 beside o y (sending_since bucket since after) (Refused why) is step = ap (λ (n : NodeState). n.history) step.1
 beside o y (sending_since bucket since after) r is step = absurd step
@@ -136,28 +153,29 @@ beside o y (retiring dev told) (Refused Memory) is step = ap (λ (n : NodeState)
 beside o y (retiring dev told) r is step = absurd step
 
 -- after one step a node has the history of what it was given
-one_given : (S : ReferenceSet) (o y : NodeState) (by : ℕ) (w : Work) (r : ShardReply)
-    → o.history ≡ history S → NodeStep o w r y
-    → y.history ≡ history (given_by_calls S (call_operations by w r))
-one_given S o y by (calling c) r stands step = call_given S o y by c (node_reply_of r) stands step
-one_given S o y by writing_pages r stands step = beside o y writing_pages r tt step ∙ stands
-one_given S o y by (writing_some limit) r stands step = beside o y (writing_some limit) r tt step ∙ stands
-one_given S o y by writing_back r stands step = beside o y writing_back r tt step ∙ stands
-one_given S o y by (zeroing p) r stands step = beside o y (zeroing p) r tt step ∙ stands
-one_given S o y by (forgetting dev from) r stands step = beside o y (forgetting dev from) r tt step ∙ stands
-one_given S o y by (sending_since bucket since after) r stands step = beside o y (sending_since bucket since after) r tt step ∙ stands
-one_given S o y by copying r stands step = beside o y copying r tt step ∙ stands
-one_given S o y by (retiring dev told) r stands step = beside o y (retiring dev told) r tt step ∙ stands
+one_given : (S : ReferenceSet) (o y : NodeState) (w : Work) (r : ShardReply)
+    → o.history ≡ history S → NodeStep o w r y → y.history ≡ history (given_by_step S w r)
+one_given S o y (calling c) r stands step = call_given S o y c (node_reply_of r) stands step
+one_given S o y (taking_in horizon es) Done stands step = taken_given S o y horizon es stands step.0
+one_given S o y (taking_in horizon es) (Refused why) stands step = same_history o y step.1 ∙ stands
+one_given S o y (taking_in horizon es) r stands step = absurd step
+one_given S o y writing_pages r stands step = beside o y writing_pages r tt step ∙ stands
+one_given S o y (writing_some limit) r stands step = beside o y (writing_some limit) r tt step ∙ stands
+one_given S o y writing_back r stands step = beside o y writing_back r tt step ∙ stands
+one_given S o y (zeroing p) r stands step = beside o y (zeroing p) r tt step ∙ stands
+one_given S o y (forgetting dev from) r stands step = beside o y (forgetting dev from) r tt step ∙ stands
+one_given S o y (answering request) r stands step = beside o y (answering request) r tt step ∙ stands
+one_given S o y (sending_since bucket since after) r stands step = beside o y (sending_since bucket since after) r tt step ∙ stands
+one_given S o y copying r stands step = beside o y copying r tt step ∙ stands
+one_given S o y (retiring dev told) r stands step = beside o y (retiring dev told) r tt step ∙ stands
 
 -- and so after many
 steps_given : (S : ReferenceSet) (o z : NodeState) (es : List (Operation Work ShardReply))
     → o.history ≡ history S → Runs NodeStep o es z
-    → z.history ≡ history (given_by_calls S (calls_in es))
+    → z.history ≡ history (given_by_steps S es)
 steps_given S o z [] stands runs = ap (λ (n : NodeState). n.history) (sym runs) ∙ stands
 steps_given S o z (e ∷ es) stands runs =
-    let one = call_operations e.by e.call e.reply in
-    steps_given (given_by_calls S one) runs.0 z es (one_given S o runs.0 e.by e.call e.reply stands runs.1) runs.2
-    ∙ ap history (given_after S one (calls_in es))
+    steps_given (given_by_step S e.call e.reply) runs.0 z es (one_given S o runs.0 e.call e.reply stands runs.1) runs.2
 
 pub shard_is_of_given : ShardIsOfGiven
 shard_is_of_given S o z es stands runs = steps_given S o.node z.node (node_steps es) stands (calls_are_a_nodes o z es runs)
@@ -227,7 +245,7 @@ only_sees_more = record {
   called = called_more;
   absorbed = λ old new k batch so. firsts_more (AbsorbsPart (length old) batch) (part_more (length old) batch) k old new so;
   raised = λ old new k time so. firsts_more (RaisesShard time) (λ i p q r. got_more p.view q.view _ (Kept r.0) r.1) k old new so;
-  taken = λ old new k message so. firsts_more (TakesPart (length old) message) (λ i p q r. got_more p.view q.view (part_call (length old) message i) (Answers r.0) r.1) k old new so;
+  taken = λ old new k message so. firsts_more (TakesPart (length old) message) (λ i p q r. got_more p.view q.view (part_call (length old) message i) Done r) k old new so;
   done = λ old new k call so. firsts_more (Does call) (λ i p q r. got_more p.view q.view call Done r) k old new so;
   offered = λ old new offers k so. firsts_more (λ i. Offers (offer_at offers i) i) (λ i p q r. got_more p.view q.view Offer (offer_reply (offer_at offers i)) r) k old new so.1;
   answered = λ old new request parts k so. firsts_more (λ i. AnswersPart (length old) request (slice_index_or parts i []) i) (λ i. answer_more (length old) request (slice_index_or parts i []) i) k old new so.1;

@@ -5,7 +5,7 @@ use Rattle.warm_turn.specs.CallHistories.{Called, marked}
 use Rattle.warm_gossip.specs.State.{NodeState}
 use Rattle.warm_gossip.specs.declared.fault.NodeFault.TheVariants.{StaleSlot}
 use Rattle.warm_concurrent.specs.declared.call.ShardCall.{ShardCall}
-use Rattle.warm_concurrent.specs.declared.call.ShardCall.TheVariants.{Absorb, Write}
+use Rattle.warm_concurrent.specs.declared.call.ShardCall.TheVariants.{Absorb, TakeIn, Write}
 use Rattle.warm_concurrent.specs.declared.call.ShardCall.TheVariants.{WritePages, WriteBack}
 use Rattle.warm_concurrent.specs.declared.call.ShardCall.TheVariants.{ForgetPages}
 use Rattle.warm_concurrent.specs.declared.call.ShardReply.{ShardReply}
@@ -62,6 +62,7 @@ MayAnswer count i call reply = IsOwn count i call
 -- a call of own pages that has no result: a node answers it `Done`, or refuses it
 abbrev pub IsDoneCall : ℕ → ℕ → ShardCall → Type 0
 IsDoneCall count i (Absorb batch) = IsOwn count i (Absorb batch)
+IsDoneCall count i (TakeIn horizon entries) = IsOwn count i (TakeIn horizon entries)
 IsDoneCall count i (Write slot at bytes) = Unit {0}
 IsDoneCall count i WritePages = Unit {0}
 IsDoneCall count i WriteBack = Unit {0}

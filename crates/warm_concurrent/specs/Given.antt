@@ -8,10 +8,9 @@ use Rattle.warm_stamps.specs.declared.PageId.{PageId}
 use Rattle.warm_stamps.specs.declared.Reference.{Reference}
 use Rattle.warm_history.specs.ReferenceSets.{ReferenceSet, set_of_list, ◌∪◌}
 use Rattle.warm_history.specs.References.{IsIn}
-use Rattle.warm_history.specs.Histories.{StandsFor}
+use Rattle.warm_history.specs.Histories.{StandsFor, history_of_entries_at, references_of}
 use Rattle.warm_rank.specs.Laws.{IsFarthest}
 use Rattle.warm_frames.specs.declared.message.Message.{Message}
-use Rattle.warm_frames.specs.declared.message.Message.TheVariants.{Entries}
 use Rattle.warm_pool.specs.View.{unfixed_pages, view_of}
 use Rattle.warm_machine.specs.declared.operation.Operation.{Operation}
 use Rattle.warm_turn.specs.declared.table.EndedPass.{EndedPass}
@@ -26,7 +25,7 @@ use Rattle.warm_concurrent.specs.declared.call.ShardCall.{ShardCall}
 use Rattle.warm_concurrent.specs.declared.call.ShardCall.TheVariants.{Absorb, Raise, Pin, Look, Change}
 use Rattle.warm_concurrent.specs.declared.call.ShardCall.TheVariants.{PinZeroed, TakeIn, Victim, WarmStep}
 use Rattle.warm_concurrent.specs.declared.call.ShardReply.{ShardReply}
-use Rattle.warm_concurrent.specs.declared.call.ShardReply.TheVariants.{Answers, Done, Kept, Page}
+use Rattle.warm_concurrent.specs.declared.call.ShardReply.TheVariants.{Done, Kept, Page}
 use Rattle.warm_concurrent.specs.declared.fault.SharedFault.{SharedFault}
 use Rattle.warm_concurrent.specs.Attached.{Known, ShardPass, ShardTurn, known_of, shard_turn}
 use Rattle.warm_concurrent.specs.Clauses.{AnsweredByShard}
@@ -59,13 +58,12 @@ Log = List (Operation ShardCall ShardReply)
 abbrev pub log_at : List Log → ℕ → Log
 log_at logs i = slice_index_or logs i []
 
--- what a call with this reply gave its shard: the references of a batch, a horizon, or what a
--- message of entries brings
+-- what a call with this reply gave its shard: the references of a batch, a horizon, or the
+-- references and the horizon of entries
 abbrev pub gave_call : ShardCall → ShardReply → ReferenceSet
 gave_call (Absorb batch) Done = set_of_list batch
 gave_call (Raise time) (Kept horizon) = only_horizon time
-gave_call (TakeIn sender horizon entries) (Answers answers) =
-    refs_in (Entries sender horizon entries)
+gave_call (TakeIn horizon entries) Done = references_of (history_of_entries_at horizon entries)
 gave_call call reply = set_of_list []
 
 -- what these calls gave their shard

@@ -2,14 +2,15 @@
 use Rattle.std.specs.Prelude.{ℕ, ◌<◌, List, [], ◌∷◌, ◌++◌, length, Option, Some, None, Ok}
 use mathlib.Core.List.{IsPrefix}
 use Rattle.warm_history.specs.ReferenceSets.{ReferenceSet, set_of_list, ◌∪◌}
-use Rattle.warm_history.specs.Histories.{HistoryView, StandsFor, references_of, history}
+use Rattle.warm_history.specs.Histories.{HistoryView, StandsFor, history, history_of_entries_at}
+use Rattle.warm_history.specs.Histories.{references_of}
 use Rattle.warm_machine.specs.declared.operation.Operation.{Operation}
 use Rattle.warm_machine.specs.Runs.{Runs, operation}
 use Rattle.warm_frames.specs.declared.message.Message.{Message}
 use Rattle.warm_gossip.specs.declared.call.Call.{Call}
 use Rattle.warm_gossip.specs.declared.call.Call.TheVariants as node_call
 use Rattle.warm_gossip.specs.declared.call.Reply.{Reply}
-use Rattle.warm_gossip.specs.Given.{given_by_calls}
+use Rattle.warm_gossip.specs.Given.{given_by_call}
 use Rattle.warm_gossip.specs.State.{NodeState}
 use Rattle.warm_shards.specs.Shards.{AreShards, HoldsShard}
 use Rattle.warm_stamps.specs.declared.Reference.{Reference}
@@ -23,7 +24,7 @@ use Rattle.warm_concurrent.specs.Opening.{ClosesShard, PassesAreJoined, shards_o
 use Rattle.warm_concurrent.specs.declared.call.ShardReply.TheVariants.{Changed, Done, Foreign}
 use Rattle.warm_concurrent.specs.declared.call.ShardReply.TheVariants.{Looked, Pinned}
 use Rattle.warm_concurrent.specs.ShardSteps.{Asked, NodeStep, Work, calling, changing, doing}
-use Rattle.warm_concurrent.specs.ShardSteps.{looking, ShardState, ShardStep, asked_of}
+use Rattle.warm_concurrent.specs.ShardSteps.{looking, taking_in, ShardState, ShardStep, asked_of}
 use Rattle.warm_concurrent.specs.ShardSteps.{node_reply_of}
 use Rattle.warm_concurrent.specs.Whole.{AbsorbsFirst, DoneFirst, RaisesFirst, TakesFirst}
 
@@ -50,32 +51,32 @@ abbrev pub node_steps : List (Operation ShardCall ShardReply) → List (Operatio
 node_steps [] = []
 node_steps (e ∷ es) = asked_steps e.by (asked_of e.call) e.reply ++ node_steps es
 
--- the calls of the node among these, each with its reply
-abbrev pub reply_operations : ℕ → Call → Option Reply → List (Operation Call Reply)
-reply_operations by call None = []
-reply_operations by call (Some reply) = operation by call reply ∷ []
-
-abbrev pub call_operations : ℕ → Work → ShardReply → List (Operation Call Reply)
-call_operations by (calling call) reply = reply_operations by call (node_reply_of reply)
-call_operations by work reply = []
-
-abbrev pub calls_in : List (Operation Work ShardReply) → List (Operation Call Reply)
-calls_in [] = []
-calls_in (e ∷ es) = call_operations e.by e.call e.reply ++ calls_in es
-
--- the calls of the node, in their order
-abbrev pub node_calls : List (Operation ShardCall ShardReply) → List (Operation Call Reply)
-node_calls calls = calls_in (node_steps calls)
-
 -- A legal list of calls of a shard is one of steps of its node: of calls, and of what it does
 -- beside them.
 abbrev pub CallsAreANodes : Type 0
 CallsAreANodes = (opening last : ShardState) (calls : List (Operation ShardCall ShardReply))
     → Runs ShardStep opening calls last → Runs NodeStep opening.node (node_steps calls) last.node
 
+-- the references that a node was given, after one step with this reply: by a call of it, or by
+-- entries that it took in
+abbrev pub given_by_reply : ReferenceSet → Call → Option Reply → ReferenceSet
+given_by_reply S call None = S
+given_by_reply S call (Some reply) = given_by_call S call reply
+
+abbrev pub given_by_step : ReferenceSet → Work → ShardReply → ReferenceSet
+given_by_step S (calling call) reply = given_by_reply S call (node_reply_of reply)
+given_by_step S (taking_in horizon entries) Done =
+    S ∪ references_of (history_of_entries_at horizon entries)
+given_by_step S work reply = S
+
+-- the references that it was given by these steps, from these on
+abbrev pub given_by_steps : ReferenceSet → List (Operation Work ShardReply) → ReferenceSet
+given_by_steps S [] = S
+given_by_steps S (e ∷ es) = given_by_steps (given_by_step S e.call e.reply) es
+
 -- the references that a shard was given by these calls, from these on
 abbrev pub given_to_shard : ReferenceSet → List (Operation ShardCall ShardReply) → ReferenceSet
-given_to_shard S calls = given_by_calls S (node_calls calls)
+given_to_shard S calls = given_by_steps S (node_steps calls)
 
 -- a shard in a state that a legal list of its calls reaches has the history of the references that
 -- it was given

@@ -6,12 +6,11 @@ use Rattle.std.specs.List.{All}
 use Rattle.boxcar.specs.declared.tag.Tag.{Tag}
 use Rattle.warm_stamps.specs.declared.TheConstants.{BUCKETS}
 use Rattle.warm_stamps.specs.declared.PageId.{PageId}
-use Rattle.warm_frames.specs.declared.message.Message.{Message}
-use Rattle.warm_frames.specs.declared.message.Message.TheVariants.{Entries, Want}
+use Rattle.warm_history.specs.declared.hist.Entry.{Entry}
 use Rattle.warm_pool.specs.declared.slot.Slot.{Slot}
 use Rattle.warm_pool.specs.Forgetting.{ForgetRefused, Forgets}
 use Rattle.warm_devices.specs.Device.{DeviceState}
-use Rattle.warm_pool.specs.Keeping.{KeepsFrames}
+use Rattle.warm_pool.specs.Keeping.{KeepsBytes, KeepsFrames}
 use Rattle.warm_pool.specs.PageBytes.{IsLent}
 use Rattle.warm_pool.specs.Retiring.{KeepsElsewhere, RetireRefused, Retired}
 use Rattle.warm_pool.specs.State.{IsSettled}
@@ -25,7 +24,9 @@ use Rattle.warm_gossip.specs.declared.call.Reply.{Reply}
 use Rattle.warm_gossip.specs.declared.call.Reply.TheVariants as node_reply
 use Rattle.warm_gossip.specs.declared.fault.NodeFault.{NodeFault}
 use Rattle.warm_gossip.specs.declared.fault.NodeFault.TheVariants.{Memory, Pool}
-use Rattle.warm_gossip.specs.Clauses.{DevicesAfter, Goes, NodeWriteBackFails, OfPool, SameView}
+use Rattle.warm_gossip.specs.Clauses.{DevicesAfter, Goes, JoinsEntries, NodeWriteBackFails, OfPool}
+use Rattle.warm_gossip.specs.Clauses.{SameView}
+use Rattle.warm_peer.specs.Answers.{requested_messages}
 use Rattle.warm_peer.specs.Since.{HasMoreSince, sent_since}
 use Rattle.warm_gossip.specs.State.{NodeState}
 use Rattle.warm_shards.specs.Clauses.{KeepsKnown}
@@ -63,13 +64,10 @@ no_state = shard_over 0 0 no_shard
 
 -- Calls and replies
 
--- a request for these buckets, without a horizon: an answer does not depend on its sender
-abbrev pub request_for : ℕ → Message
-request_for request = Want 1 0 request
-
 -- What a node does in one step: a call; to write back all pages, some, or all with a flush; a pin of
--- a page that gets zeros; to forget the pages of a device from a number on; to send what is new in a
--- bucket since a time, after a page; to copy its history; or to replace a device with another.
+-- a page that gets zeros; to forget the pages of a device from a number on; to take entries in, at
+-- the later horizon; to send the entries of these buckets, or what is new in a bucket since a time,
+-- after a page; to copy its history; or to replace a device with another.
 pub data Work : Type 0 where
   calling : Call → Work
   writing_pages : Work
@@ -77,6 +75,8 @@ pub data Work : Type 0 where
   writing_back : Work
   zeroing : PageId → Work
   forgetting : ℕ → ℕ → Work
+  taking_in : ℕ → List Entry → Work
+  answering : ℕ → Work
   sending_since : ℕ → ℕ → Option PageId → Work
   copying : Work
   retiring : ℕ → Tag → Work
@@ -96,8 +96,7 @@ of_node call = doing (calling call)
 abbrev pub asked_of : ShardCall → Asked
 asked_of (Absorb batch) = of_node (node_call.Absorb batch)
 asked_of (Raise time) = of_node (node_call.Horizon time)
-asked_of (TakeIn sender horizon entries) =
-    of_node (node_call.Receive (Entries sender horizon entries))
+asked_of (TakeIn horizon entries) = doing (taking_in horizon entries)
 asked_of (Pin page) = of_node (node_call.Pin page)
 asked_of (PinZeroed page) = doing (zeroing page)
 asked_of (Unpin slot) = of_node (node_call.Unpin slot)
@@ -109,7 +108,7 @@ asked_of (WarmList n) = of_node (node_call.WarmList n)
 asked_of Offer = of_node node_call.Offer
 asked_of (Send bucket after) = of_node (node_call.Send bucket after)
 asked_of (SendSince bucket since after) = doing (sending_since bucket since after)
-asked_of (Answer request) = of_node (node_call.Receive (request_for request))
+asked_of (Answer request) = doing (answering request)
 asked_of CopyHistory = doing copying
 asked_of WritePages = doing writing_pages
 asked_of (WriteSome limit) = doing (writing_some limit)
@@ -150,8 +149,7 @@ AreOwnBuckets count number buckets = (bucket : ℕ) → bucket < BUCKETS → bit
 -- every page and every bucket that the call brings is of the shard of this number
 abbrev pub IsOwn : ℕ → ℕ → ShardCall → Type 0
 IsOwn count number (Absorb batch) = All (λ r. shard_of count r.page ≡ number) batch
-IsOwn count number (TakeIn sender horizon entries) =
-    All (λ e. shard_of count e.page ≡ number) entries
+IsOwn count number (TakeIn horizon entries) = All (λ e. shard_of count e.page ≡ number) entries
 IsOwn count number (Pin page) = shard_of count page ≡ number
 IsOwn count number (PinZeroed page) = shard_of count page ≡ number
 IsOwn count number (Answer request) = AreOwnBuckets count number request
@@ -212,6 +210,22 @@ ForgetPagesStep old dev from (Refused why) new = KeepsKnown old new
     × OfPool (λ fault. ForgetRefused old.pool dev from fault new.pool) why
 ForgetPagesStep old dev from reply new = ⊥
 
+-- The entries were taken in, at the later horizon, or no memory was left. No device and no dirty
+-- flag has changed.
+abbrev pub TakeInStep : NodeState → ℕ → List Entry → ShardReply → NodeState → Type 0
+TakeInStep old horizon entries Done new = JoinsEntries old horizon entries new
+    × KeepsBytes old.pool new.pool
+TakeInStep old horizon entries (Refused why) new = (why ≡ Memory) × SameView old new
+    × KeepsBytes old.pool new.pool
+TakeInStep old horizon entries reply new = ⊥
+
+-- the entries of these buckets, in messages
+abbrev pub AnswerStep : NodeState → ℕ → ShardReply → NodeState → Type 0
+AnswerStep old request (Answers messages) new =
+    (messages ≡ requested_messages old.id old.history request) × (new ≡ old)
+AnswerStep old request (Refused why) new = (why ≡ Memory) × (new ≡ old)
+AnswerStep old request reply new = ⊥
+
 -- the message of what is new in a bucket since a time, and whether more follows
 abbrev pub SendSinceStep : NodeState → ℕ → ℕ → Option PageId → ShardReply → NodeState → Type 0
 SendSinceStep old bucket since after (Portion message more) new =
@@ -247,6 +261,8 @@ NodeStep old (writing_some limit) reply new = WriteSomeStep old limit reply new
 NodeStep old writing_back reply new = WriteBackStep old reply new
 NodeStep old (zeroing page) reply new = PinZeroedStep old page reply new
 NodeStep old (forgetting dev from) reply new = ForgetPagesStep old dev from reply new
+NodeStep old (taking_in horizon entries) reply new = TakeInStep old horizon entries reply new
+NodeStep old (answering request) reply new = AnswerStep old request reply new
 NodeStep old (sending_since bucket since after) reply new =
     SendSinceStep old bucket since after reply new
 NodeStep old copying reply new = CopyStep old reply new

@@ -6,12 +6,12 @@ use Rattle.warm_stamps.specs.declared.Reference.{Reference}
 use Rattle.warm_frames.specs.declared.message.Message.{Message}
 use Rattle.warm_frames.specs.Limits.{entries_in, horizon_in}
 use Rattle.warm_gossip.specs.declared.fault.NodeFault.TheVariants.{Memory}
-use Rattle.warm_shards.specs.Parts.{part_of_entries, sender_in}
+use Rattle.warm_shards.specs.Parts.{part_of_entries}
 use Rattle.warm_shards.specs.Shards.{shard_of}
 use Rattle.warm_concurrent.specs.declared.call.ShardCall.TheVariants.{Absorb, Raise, TakeIn}
 use Rattle.warm_concurrent.specs.declared.call.ShardCall.TheVariants.{WritePages, WriteBack}
 use Rattle.warm_concurrent.specs.declared.call.ShardCall.{ShardCall}
-use Rattle.warm_concurrent.specs.declared.call.ShardReply.TheVariants.{Answers, Done, Kept}
+use Rattle.warm_concurrent.specs.declared.call.ShardReply.TheVariants.{Done, Kept}
 use Rattle.warm_concurrent.specs.declared.fault.SharedFault.{SharedFault}
 use Rattle.warm_concurrent.specs.declared.writing.NotWritten.{NotWritten}
 use Rattle.warm_concurrent.specs.declared.writing.NotWritten.TheVariants.{Pages, Devices}
@@ -62,13 +62,12 @@ RaiseFails time k why old new = (mid : List ShardPass) × (k < length old)
 
 -- what a message asks of the shard of this number, of this many: to take in its part of the message
 abbrev pub part_call : ℕ → Message → ℕ → ShardCall
-part_call count message i = TakeIn (sender_in message) (horizon_in message)
+part_call count message i = TakeIn (horizon_in message)
     (part_of_entries count i (entries_in message))
 
 -- a shard took in its part of the message, in one turn
 abbrev pub TakesPart : ℕ → Message → ℕ → ShardPass → ShardPass → Type 0
-TakesPart count message i old new = (answers : List Message)
-    × Got old.view (part_call count message i) (Answers answers) new.view
+TakesPart count message i old new = Got old.view (part_call count message i) Done new.view
 
 -- the shards below k have taken in their parts of the message, and no other turn was entered
 abbrev pub TakesFirst : Message → ℕ → List ShardPass → List ShardPass → Type 0

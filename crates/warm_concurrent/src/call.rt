@@ -6,7 +6,7 @@ use boxcar::tag::Tag;
 use warm_frames::{BoxedMessage, EntryList, MessageList};
 use warm_gossip::NodeFault;
 use warm_pool::Slot;
-use warm_stamps::{Bucket, BucketSet, ByteList, PageId, PageList, RefList, ReplicaId};
+use warm_stamps::{Bucket, BucketSet, ByteList, PageId, PageList, RefList};
 
 /// A call of a shard: a call of its node, what an engine asks of a node beside the calls, or one
 /// that pins a page, uses its bytes where they lie, and unpins it.
@@ -16,10 +16,8 @@ pub enum ShardCall {
     Absorb(RefList),
     /// Forget all stamps before this time.
     Raise(u64),
-    /// Take in what a message of entries brings. All must be of pages of the shard.
+    /// Take entries in, at the later horizon. All must be of pages of the shard.
     TakeIn {
-        /// The replica that sent them.
-        sender: ReplicaId,
         /// The time before which all stamps are forgotten.
         horizon: u64,
         /// The entries.

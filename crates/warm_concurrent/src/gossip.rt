@@ -6,15 +6,16 @@ ghost use Rattle.warm_concurrent.specs.Clauses.{CallEnds};
 ghost use Rattle.warm_concurrent.specs.Gossip.{CompareFails, Compares, DigestsStop, ReceiveStops};
 ghost use Rattle.warm_concurrent.specs.Gossip.{RequestStops, ShardsReceive, ShardsTakeDigests};
 ghost use Rattle.warm_concurrent.specs.Gossip.{ShardsTakeRequest};
-ghost use Rattle.warm_concurrent.specs.ShardSteps.{IsOwn, shard_of_bucket};
+ghost use Rattle.warm_concurrent.specs.ShardSteps.{shard_of_bucket};
 ghost use Rattle.warm_concurrent.specs.Whole.{TakeFails, TakesFirst};
-ghost use Rattle.warm_concurrent.specs.declared.call.ShardCall.TheVariants.{Send, SendSince, TakeIn};
-ghost use Rattle.warm_concurrent.specs.declared.call.ShardReply.TheVariants.{Answers, Portion, Sent};
+ghost use Rattle.warm_concurrent.specs.declared.call.ShardCall.TheVariants.{Send, SendSince};
+ghost use Rattle.warm_concurrent.specs.declared.call.ShardReply.TheVariants.{Portion, Sent};
 
 use crate::answering::{Offered, answer_all, gather};
 use crate::call::{ShardCall, ShardReply};
 use crate::fault::SharedFault;
 use crate::history_calls::{Stopped, raise_all};
+use crate::pool_calls::do_in;
 use crate::shard::Shard;
 use crate::shared::{Attached, SharedShards, call_shard};
 use std::alloc::{AllocError, Global};
@@ -24,8 +25,8 @@ use warm_digest::differing;
 use warm_frames::{BoxedMessage, DigestTable, EntryList, Message, MessageList};
 use warm_gossip::NodeFault;
 use warm_peer::SentPortion;
-use warm_shards::{entries_for, sender_of};
-use warm_stamps::{Bucket, BucketSet, PageId, ReplicaId};
+use warm_shards::entries_for;
+use warm_stamps::{Bucket, BucketSet, PageId};
 use warm_turn::{Pass, Turn};
 
 /// Where taking a message in stopped, and why.
@@ -45,36 +46,6 @@ pub enum NotReceived {
     Answering(Stopped),
 }
 
-// A shard takes in a message of entries of its pages.
-fn take_in<D: PageDevice + Send, R: Wait>(
-    rt: &R,
-    turns: &Vec<Turn<Shard<D>>>,
-    passes: &mut Vec<Pass<Shard<D>>>,
-    shard: usize,
-    sender: ReplicaId,
-    horizon: u64,
-    entries: EntryList,
-) -> Result<MessageList, SharedFault>
-    requires turns { AreTurns turns.now.items }
-    requires passes { AreOf turns.now.items passes.old.items }
-    requires there { shard < length turns.now.items }
-    requires own { IsOwn (length turns.now.items) shard (TakeIn sender horizon entries) }
-    ensures passes { AreOf turns.now.items passes.new.items }
-    ensures ends { CallEnds passes.old.items shard (TakeIn sender horizon entries) Answers result
-        passes.new.items }
-{
-    let call = ShardCall::TakeIn {
-        sender,
-        horizon,
-        entries,
-    };
-    match call_shard(rt, turns, passes, shard, call)? {
-        ShardReply::Answers(messages) => Ok(messages),
-        ShardReply::Refused(why) => Err(SharedFault::Node(why)),
-        _ => unreachable!(),
-    }
-}
-
 // Each shard takes in its part of a message, in one turn, in the order of the shards.
 fn take_parts<D: PageDevice + Send, R: Wait>(
     rt: &R,
@@ -92,7 +63,6 @@ fn take_parts<D: PageDevice + Send, R: Wait>(
         passes.old.items passes.new.items) }
 {
     let count = turns.len();
-    let sender = sender_of(message);
     let horizon = message.horizon();
     for shard in 0..count {
         let Ok(part) = entries_for(alloc, message, count, shard) else {
@@ -102,7 +72,8 @@ fn take_parts<D: PageDevice + Send, R: Wait>(
             });
         };
         let entries = EntryList::holding(part);
-        if let Err(fault) = take_in(rt, turns, passes, shard, sender, horizon, entries) {
+        let call = ShardCall::TakeIn { horizon, entries };
+        if let Err(fault) = do_in(rt, turns, passes, shard, call) {
             return Err(Stopped { fault, shard });
         }
     }

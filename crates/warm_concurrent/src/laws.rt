@@ -11,9 +11,10 @@ ghost use Rattle.warm_concurrent.specs.contracts.shared.SharedShards.{the_row as
 
 use warm_devices::PageDevice;
 
-/// A legal list of calls of a shard is a legal list of calls of its node. Between these stand
-/// write-backs, of which a caller sees at most a count of failures, pins of pages that get zeros,
-/// and the forgetting of pages.
+/// A legal list of calls of a shard is a legal list of steps of its node: of its calls, and of what
+/// it is asked beside them. That is to write back, of which a caller sees at most a count of
+/// failures, to pin pages that get zeros, to forget pages, to replace devices, to take entries in,
+/// and to give what is in its history.
 pub fn calls_are_a_nodes()
     ensures { CallsAreANodes }
 {}

@@ -18,6 +18,7 @@ use warm_pool::RetireError;
 use warm_turn::{Pass, Turn, Visit, Visited};
 
 /// Why a device was not replaced, and the device that was to replace it.
+#[derive(Drop)]
 pub struct NotRetired<D: PageDevice> {
     /// The reason.
     pub fault: SharedFault,
@@ -132,7 +133,7 @@ impl<D: PageDevice + Send> SharedShards<D> {
     /// Replaces a device of a shard with another, and drops the old one: one turn of the shard, in
     /// which the call `Retire` is answered. The dirty pages of the old device are written back, it
     /// is flushed, and its pages are evicted: see [`warm_gossip::Node::retire`]. Each shard has a
-    /// device of its own of this number.
+    /// device of its own of this number. Allocation-free.
     ///
     /// # Errors
     /// `Node(Pool(..))`, with a fault and the effects of [`warm_gossip::Node::retire`] in the shard:

@@ -1,6 +1,7 @@
 //! One shard as a machine that threads share by turns.
-ghost use Rattle.std.specs.Prelude.{◌≡◌, ◌↔◌, IsTrue};
+ghost use Rattle.std.specs.Prelude.{◌≡◌, ◌↔◌, IfOk, IsTrue};
 ghost use Rattle.std.specs.List.{All};
+ghost use Rattle.warm_peer.specs.Answers.{requested_messages};
 ghost use Rattle.warm_shards.specs.Shards.{IsShardCount, shard_of};
 ghost use Rattle.warm_concurrent.specs.ShardSteps.{AnsweredAs, AreOwnBuckets, IsOwn, ShardStep};
 ghost use Rattle.warm_concurrent.specs.declared.call.ShardCall.TheVariants.{Answer, Change, Look};
@@ -14,15 +15,15 @@ ghost use Rattle.warm_concurrent.specs.declared.call.ShardCall.TheVariants.{Writ
 use crate::call::{ShardCall, ShardReply};
 use crate::copying::BoxedHistory;
 use crate::lending::{Left, Shown, change_in, look_in};
-use std::alloc::Global;
+use std::alloc::{AllocError, Global};
 use std::marker::Model;
 use warm_devices::PageDevice;
-use warm_frames::{BoxedMessage, EntryList, Message};
+use warm_frames::{BoxedMessage, EntryList, Message, MessageList};
 use warm_gossip::{Node, NodeFault};
 use warm_peer::SentPortion;
 use warm_pool::{NamesPage, Slot};
 use warm_shards::shard_of;
-use warm_stamps::{BUCKETS, Bucket, BucketSet, ByteList, PageId, ReplicaId};
+use warm_stamps::{BUCKETS, Bucket, BucketSet, ByteList, PageId};
 use warm_turn::Machine;
 
 /// One shard of a replica: a node, how many shards there are, and which of them it is.
@@ -177,39 +178,45 @@ fn sent_since<D: PageDevice>(
     })
 }
 
-// The entries of these buckets, in messages. It has the room for a message, so it is a function of
-// its own.
-fn requested<D: PageDevice>(node: &mut Node<D>, request: BucketSet) -> Result<ShardReply, NodeFault>
-    ensures { AnsweredAs node.old (Answer request) result node.new }
+// The entries of these buckets that a node has, bucket by bucket, in messages.
+fn requested<D: PageDevice>(
+    alloc: Global,
+    node: &Node<D>,
+    request: BucketSet,
+) -> Result<Vec<Message>, AllocError>
+    ensures { IfOk result (λ messages. messages.items
+        ≡ requested_messages node.now.id node.now.history request) }
 {
-    let Ok(sender) = ReplicaId::new(1) else {
-        unreachable!()
-    };
-    let want = Message::Want {
-        sender,
-        horizon: 0,
-        request,
-    };
-    let messages = node.receive(want)?;
-    Ok(ShardReply::Answers(messages))
+    let mut messages = Vec::new(alloc);
+    for bucket in request.iter() {
+        let mut part = node.peer().send_bucket(bucket)?;
+        messages.append(&mut part)?;
+    }
+    Ok(messages)
 }
 
-// Takes in a message of these entries. It has the room for a message, so it is a function of its
-// own.
+// The entries of these buckets, in messages.
+fn answered<D: PageDevice>(
+    alloc: Global,
+    node: &Node<D>,
+    request: BucketSet,
+) -> Result<ShardReply, NodeFault>
+    ensures { AnsweredAs node.now (Answer request) result node.now }
+{
+    let messages = requested(alloc, node, request)?;
+    Ok(ShardReply::Answers(MessageList::of(messages)))
+}
+
+// Takes entries in, at the later horizon.
 fn taken_in<D: PageDevice>(
     node: &mut Node<D>,
-    sender: ReplicaId,
     horizon: u64,
     entries: EntryList,
 ) -> Result<ShardReply, NodeFault>
-    ensures { AnsweredAs node.old (TakeIn sender horizon entries) result node.new }
+    ensures { AnsweredAs node.old (TakeIn horizon entries) result node.new }
 {
-    let messages = node.receive(Message::Entries {
-        sender,
-        horizon,
-        entries,
-    })?;
-    Ok(ShardReply::Answers(messages))
+    node.join_entries(horizon, entries.as_slice())?;
+    Ok(ShardReply::Done)
 }
 
 // A copy of a node's history, in a box.
@@ -252,11 +259,7 @@ fn answer<D: PageDevice>(
             Ok(ShardReply::Done)
         }
         ShardCall::Raise(time) => Ok(ShardReply::Kept(node.raise(time))),
-        ShardCall::TakeIn {
-            sender,
-            horizon,
-            entries,
-        } => taken_in(node, sender, horizon, entries),
+        ShardCall::TakeIn { horizon, entries } => taken_in(node, horizon, entries),
         ShardCall::Pin(page) => Ok(ShardReply::Pinned(node.pin(page)?)),
         ShardCall::PinZeroed(page) => zeroed(node, page),
         ShardCall::Unpin(slot) => unpinned(node, slot),
@@ -272,7 +275,7 @@ fn answer<D: PageDevice>(
             since,
             after,
         } => sent_since(alloc, node, bucket, since, after),
-        ShardCall::Answer(request) => requested(node, request),
+        ShardCall::Answer(request) => answered(alloc, node, request),
         ShardCall::CopyHistory => copied(alloc, node),
         ShardCall::WritePages => write_pages(node),
         ShardCall::WriteSome(limit) => write_some(node, limit),

@@ -35,12 +35,33 @@ pub(crate) fn opened(alloc: Global) -> Result<(Shared, Thread), Ended>
     }
 }
 
+// A shard's device is replaced with another.
+fn retired<P: Print, R: Wait>(
+    rt: &P,
+    met: &mut Met,
+    waits: &R,
+    shared: &Shared,
+    thread: &mut Thread,
+    device: MemDevice,
+) -> Result<(), Ended>
+    requires { AreOf shared.now thread.old.passes }
+    ensures { AreOf shared.now thread.new.passes }
+{
+    if shared.count() < 2 {
+        return Err(met.broken("two shards are shared"));
+    }
+    takes_none(rt, "retire of a shared shard")?;
+    let retired = shared.retire(waits, thread, 1, 0, device);
+    met.holds(retired.is_ok(), "a shared shard's device is not retired")
+}
+
 pub(crate) fn rows<P: Print, R: Wait>(
     rt: &P,
     met: &mut Met,
     waits: &R,
     shared: Shared,
     mut thread: Thread,
+    device: MemDevice,
 ) -> Result<(), Ended>
     requires { AreOf shared thread.passes }
 {
@@ -62,5 +83,6 @@ pub(crate) fn rows<P: Print, R: Wait>(
     met.holds(
         forgotten.is_ok(),
         "pages of shared shards are not forgotten",
-    )
+    )?;
+    retired(rt, met, waits, &shared, &mut thread, device)
 }

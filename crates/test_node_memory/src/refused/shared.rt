@@ -295,6 +295,32 @@ fn answer<R: Wait>(
     met.holds(is_unchanged, "answers change nothing of shared shards")
 }
 
+// Copies the history of both shards. A refused copy changes nothing. It names the shard that it
+// stopped at, or the one after the copy that was not joined.
+fn copy<R: Wait>(
+    met: &mut Met,
+    rt: &R,
+    alloc: Global,
+    shared: &Shared,
+    thread: &mut Thread,
+) -> Result<(), Ended>
+    requires { AreOf shared.now thread.old.passes }
+    ensures { AreOf shared.now thread.new.passes }
+{
+    let mut copy = shared.history(rt, alloc, thread);
+    if let Err(at) = copy {
+        let is_refused = at.fault == MEMORY && at.shard <= 2;
+        met.refuse(is_refused, "a copy is refused for memory alone")?;
+        copy = shared.history(rt, alloc, thread);
+    }
+    let Ok(copy) = copy else {
+        return Err(met.broken("a copy is refused again"));
+    };
+    met.holds(copy.len() == 6, "a copy has the pages of both shards")?;
+    let is_unchanged = is_known_below(met, rt, shared, thread, 2)?;
+    met.holds(is_unchanged, "a copy changes nothing of shared shards")
+}
+
 // Closes the shards. Where they are refused, they are given back, and are closed at the second try.
 fn close(met: &mut Met, alloc: Global, shared: Shared, thread: Thread) -> Result<(), Ended>
     requires { AreOf shared thread.passes }
@@ -317,6 +343,7 @@ pub(crate) fn rows<R: Wait>(met: &mut Met, rt: &R, alloc: Global) -> Result<(), 
     let (shared, mut thread) = shared(met, sharing)?;
     attach(met, alloc, &shared, &mut thread)?;
     absorb(met, rt, alloc, &shared, &mut thread)?;
+    copy(met, rt, alloc, &shared, &mut thread)?;
     offer(met, rt, &shared, &mut thread)?;
     answer(met, rt, alloc, &shared, &mut thread, &digest(0))?;
     answer(met, rt, alloc, &shared, &mut thread, &request(0))?;

@@ -7,15 +7,15 @@ use Rattle.warm_shards.specs.Shards.{shard_of}
 use Rattle.warm_shards.proofs.PartEntries.{part_owned}
 use Rattle.warm_concurrent.specs.declared.call.ShardCall.{ShardCall}
 use Rattle.warm_concurrent.specs.declared.call.ShardCall.TheVariants.{TakeIn}
-use Rattle.warm_concurrent.specs.declared.call.ShardReply.TheVariants.{Answers}
+use Rattle.warm_concurrent.specs.declared.call.ShardReply.TheVariants.{Done}
 use Rattle.warm_concurrent.specs.Attached.{known_of}
 use Rattle.warm_concurrent.specs.Clauses.{Got}
 use Rattle.warm_concurrent.specs.Whole.{TakesPart, part_call}
 use Rattle.warm_concurrent.proofs.Firsts.{one_first}
 use Rattle.warm_concurrent.proofs.gossip.take_parts.Goals as goal
 
-pub take_in-requires-clause-own : goal.take_in-requires-clause-own
-take_in-requires-clause-own g c κs within =
+pub do_in-requires-clause-own : goal.do_in-requires-clause-own
+do_in-requires-clause-own g c κs within =
     let count = length c.args.turns.now.items in
     let k = c.loop-shard.shard in
     let es = entries_in c.args.message.now in
@@ -29,14 +29,14 @@ loop-shard-preserved g c =
     let m = c.args.message.now in
     let old = c.args.passes.now.items in
     let mid = c.loop-shard.passes.items in
-    let new = c.take_in.new.passes.items in
+    let new = c.do_in.new.passes.items in
     let lt : k < length old = omega (arith, i.count, c.loop-shard-test.true, c.requires.passes.count) in
-    let ends = c.in_default-take_in.ensures.ends in
+    let ends = c.in_default-do_in.ensures.ends in
     let es : c.holding-entries.result ≡ part_of_entries (length old) k (entries_in m) = c.holding-entries.ensures ∙ c.in-Ok.ensures.part ∙ ap (λ (n : ℕ). part_of_entries n k (entries_in m)) (i.count ∙ sym c.requires.passes.count) in
-    let call : TakeIn c.sender_of-sender.result c.horizon-horizon.result c.holding-entries.result ≡ part_call (length old) m k = λ j. TakeIn (c.sender_of-sender.ensures j) (c.horizon-horizon.ensures j) (es j) in
+    let call : TakeIn c.horizon-horizon.result c.holding-entries.result ≡ part_call (length old) m k = λ j. TakeIn (c.horizon-horizon.ensures j) (es j) in
     record {
-      of = c.take_in.ensures.passes;
+      of = c.do_in.ensures.passes;
       first = one_first (TakesPart (length old) m) k old mid new lt i.first ends.1
-          (c.in_default-take_in.field-0, subst (λ (x : ShardCall). Got (known_of mid k) x (Answers c.in_default-take_in.field-0) (known_of new k)) call ends.0);
+          (subst (λ (x : ShardCall). Got (known_of mid k) x Done (known_of new k)) call ends.0);
       count = i.count;
     }
