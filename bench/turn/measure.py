@@ -4,13 +4,13 @@ time of a turn and the longest wait of a call.
 
 usage: measure.py [idle|busy|both] [TURNS]      default: both, and 2,000,000 turns in all threads together
 
-First for a counter, then for one that sleeps for a millisecond in each call, as a machine over a slow device does, with a
-thousandth of the turns. For `busy` as many other processes as there are processors keep them busy meanwhile. It needs
+First calls of a counter, then visits, which add where it lies, then calls of one that sleeps for a millisecond in each, as a machine over a
+slow device does, with a thousandth of the turns. For `busy` as many other processes as there are processors keep them busy meanwhile. It needs
 the proved program `bench_threads`, `rustc` and valgrind. Both programs run in turn, nine times; the median counts, since the fastest run would
 be one in which the threads hardly contended. The longest wait is that of nine further runs, in which each call is timed; of a counter that
-sleeps each call is timed in all runs. Every total must be the requested one.
+sleeps each call is timed in all runs. No visit is timed by itself. Every total must be the requested one.
 
-The first lines are the instructions of a call, and of a visit of ours, by one thread, counted by callgrind: what a run of twice as many turns takes
+The first lines are the instructions of a call, and of a visit, by one thread, counted by callgrind: what a run of twice as many turns takes
 more. It prints the lines of bench/runs.py.
 """
 
@@ -65,7 +65,7 @@ def one_run(command: list, threads: int, turns: int, kind: list[str]) -> Ran:
 
 
 def measure(load: str, unit: str, per: float, commands: dict[str, list], turns: int, kinds: list[list[str]]) -> None:
-    """Speed and processor time are of the first kind of run, the longest wait is of all kinds."""
+    """Speed and processor time are of the first kind of run, the longest wait is of all kinds that time each call."""
     for threads in CROWDS:
         took, case = Runs(), f"{load}, threads: {threads}"
         for _ in range(RUNS):
@@ -73,7 +73,8 @@ def measure(load: str, unit: str, per: float, commands: dict[str, list], turns: 
                 rounds = [one_run(command, threads, turns, kind) for kind in kinds]
                 took.add(f"turns, {case}", name, unit, rounds[0].speed / per)
                 took.add(f"processor time, {case}", name, "ns", rounds[0].used)
-                took.add(f"longest wait, {case}", name, "ms", max(it.longest for it in rounds) / 1e6)
+                if longest := max(it.longest for it in rounds):
+                    took.add(f"longest wait, {case}", name, "ms", longest / 1e6)
         took.print()
 
 
@@ -86,12 +87,13 @@ def main() -> None:
         took = Runs()
         for name, command in commands.items():
             took.add("a call", name, "instructions", instructions(command, []))
-        took.add("a visit", "ours", "instructions", instructions(TURN, ["visits"]))
+            took.add("a visit", name, "instructions", instructions(command, ["visits"]))
         took.print()
         for is_busy in {"idle": [False], "busy": [True], "both": [False, True]}[when]:
             load = "busy" if is_busy else "idle"
             with all_processors_busy(is_busy):
                 measure(load, "M/s", 1e6, commands, turns, [[], ["waits"]])
+                measure(f"{load}, visits", "M/s", 1e6, commands, turns, [["visits"]])
                 measure(f"{load}, calls of 1 ms", "1/s", 1, commands, max(turns // 1000, 8), [["slow"]])
 
 

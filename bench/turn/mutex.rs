@@ -1,7 +1,8 @@
 //! The counter of `bench_threads turn` behind a `std::sync::Mutex`, for the same measurements.
 //!
 //! `mutex THREADS TURNS`: THREADS threads add TURNS times each, and the total and the nanoseconds are printed. With the word `waits` after
-//! these also the nanoseconds of the longest call, with `slow` the same of a counter that sleeps for a millisecond in each call.
+//! these also the nanoseconds of the longest call, with `slow` the same of a counter that sleeps for a millisecond in each call. With `visits`
+//! the threads add where the counter lies, without a call of it.
 
 use std::hint::black_box;
 use std::sync::Mutex;
@@ -41,29 +42,45 @@ fn add_one(counter: &Mutex<Counter>) {
     }
 }
 
-// Returns the time of the longest call, where that is requested.
-fn add_ones(counter: &Mutex<Counter>, turns: u64, is_timed: bool) -> Duration {
+fn visit(counter: &Mutex<Counter>) {
+    let mut counter = counter.lock().expect("no thread panics");
+    if let Some(total) = counter.total.checked_add(1) {
+        counter.total = total;
+    }
+}
+
+#[derive(Clone, Copy, PartialEq)]
+enum Way {
+    Calls,
+    TimedCalls,
+    Visits,
+}
+
+// Returns the time of the longest call, where calls are timed.
+fn add_ones(counter: &Mutex<Counter>, turns: u64, way: Way) -> Duration {
     let mut longest = Duration::ZERO;
     for _ in 0..turns {
-        if is_timed {
-            let start = Instant::now();
-            add_one(counter);
-            longest = longest.max(start.elapsed());
-        } else {
-            add_one(counter);
+        match way {
+            Way::Calls => add_one(counter),
+            Way::Visits => visit(counter),
+            Way::TimedCalls => {
+                let start = Instant::now();
+                add_one(counter);
+                longest = longest.max(start.elapsed());
+            }
         }
     }
     longest
 }
 
 // The total, and the time of the longest call.
-fn count(threads: usize, turns: u64, sleeps: bool, is_timed: bool) -> (u64, Duration) {
+fn count(threads: usize, turns: u64, sleeps: bool, way: Way) -> (u64, Duration) {
     let counter = Mutex::new(Counter { total: 0, sleeps });
     let longest = if threads == 1 {
-        add_ones(&counter, turns, is_timed)
+        add_ones(&counter, turns, way)
     } else {
         thread::scope(|scope| {
-            let add = || add_ones(&counter, turns, is_timed);
+            let add = || add_ones(&counter, turns, way);
             let all: Vec<_> = (0..threads).map(|_| scope.spawn(add)).collect();
             all.into_iter().map(|one| one.join().expect("no thread panics")).max().unwrap_or_default()
         })
@@ -75,19 +92,20 @@ fn main() {
     let words: Vec<String> = std::env::args().skip(1).collect();
     let words: Vec<&str> = words.iter().map(String::as_str).collect();
     let number = |word: &str| word.parse::<u64>().expect("a number");
-    let [threads, turns, ref rest @ ..] = words[..] else { panic!("mutex THREADS TURNS, and waits or slow") };
+    let [threads, turns, ref rest @ ..] = words[..] else { panic!("mutex THREADS TURNS, and waits, slow or visits") };
     let (threads, turns) = (number(threads), number(turns));
-    let (sleeps, is_timed) = match rest {
-        [] => (false, false),
-        ["waits"] => (false, true),
-        ["slow"] => (true, true),
-        _ => panic!("waits or slow"),
+    let (sleeps, way) = match rest {
+        [] => (false, Way::Calls),
+        ["waits"] => (false, Way::TimedCalls),
+        ["slow"] => (true, Way::TimedCalls),
+        ["visits"] => (false, Way::Visits),
+        _ => panic!("waits, slow or visits"),
     };
     let start = Instant::now();
-    let (total, longest) = count(threads as usize, turns, sleeps, is_timed);
+    let (total, longest) = count(threads as usize, turns, sleeps, way);
     let spent = start.elapsed();
     let name = if threads == 1 { "thread" } else { "threads" };
-    if is_timed {
+    if way == Way::TimedCalls {
         println!("{threads} {name}: {total} in {} ns, {} ns", spent.as_nanos(), longest.as_nanos());
     } else {
         println!("{threads} {name}: {total} in {} ns", spent.as_nanos());

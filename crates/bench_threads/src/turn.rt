@@ -1,13 +1,15 @@
 //! Measures turns: a counter behind one turn, called by one pass, and by 2, 4 and 8 threads at
 //! once.
 //!
-//! With no argument each thread takes 1,000 turns, and the totals are printed. With two numbers,
+//! With no argument each thread takes 1,000 turns, and as many for visits, and the totals are
+//! printed. With two numbers,
 //! `THREADS TURNS`, 1, 2, 4 or 8 threads take that many turns each, and the nanoseconds are printed
 //! too, for `bench/turn/measure.py`; with the word `waits` after them also the nanoseconds of the
 //! longest call; and with `slow` the same of a counter that sleeps for a millisecond in each call,
-//! as a machine over a slow device does. With `visits` one thread adds by visits in place of calls.
+//! as a machine over a slow device does. With `visits` the threads add by visits in place of calls.
 ghost use Rattle.std.specs.Prelude.{◌≡◌};
 ghost use Rattle.std.specs.Thread.{IsSend, IsSync};
+ghost use Rattle.warm_turn.specs.contracts.counter.Counter.{the_row as counter_row};
 
 use anyhow::{Context, Result, bail};
 use std::alloc::Global;
@@ -127,6 +129,41 @@ fn visit_often<R: Wait>(
     pass
 }
 
+// This many threads take this many turns each, for visits, and their passes are ended into this
+// one.
+#[cycle(visit_in)]
+fn visit_in<R: Threads + Wait + Sync>(
+    rt: &R,
+    turn: &Turn<Counter>,
+    mut pass: Pass<Counter>,
+    threads: u32,
+    turns: u64,
+) -> Pass<Counter>
+    requires send { IsSend counter_row × IsSync R.row }
+    requires table { pass.table ≡ turn.now.table }
+    ensures { result.table ≡ turn.now.table }
+{
+    if threads <= 1 {
+        return visit_often(rt, turn, pass, turns);
+    }
+    let half = threads / 2;
+    let rest = threads - half;
+    let other = turn.pass(&mut pass);
+    let (mut pass, other) = join(
+        rt,
+        move || -> Pass<Counter>
+            requires { IsSend counter_row × IsSync R.row × (pass.table ≡ turn.now.table) }
+            ensures { result.table ≡ turn.entry.now.table }
+        { visit_in(rt, turn, pass, half, turns) },
+        move || -> Pass<Counter>
+            requires { IsSend counter_row × IsSync R.row × (other.table ≡ turn.now.table) }
+            ensures { result.table ≡ turn.entry.now.table }
+        { visit_in(rt, turn, other, rest, turns) },
+    );
+    turn.end(&mut pass, other);
+    pass
+}
+
 // This many threads take this many turns each, and their passes are ended into this one.
 #[cycle(add_in)]
 fn add_in<M: Machine<Call = Add, Reply = Added> + Send, R: Threads + Wait + Clock + Sync>(
@@ -204,7 +241,7 @@ impl Crowd {
 }
 
 // The kind of a run: plain, with each call timed, with a machine that sleeps and each call timed,
-// or of one thread with visits in place of calls.
+// or with visits in place of calls.
 #[derive(Clone, Copy)]
 enum Kind {
     Plain,
@@ -231,15 +268,17 @@ fn count<R: Threads + Wait + Clock + Sync>(
     Ok((counter.total, longest))
 }
 
-// The total that one thread counts to from 0 by visits.
-fn count_by_visits<R: Wait>(rt: &R, alloc: Global, crowd: Crowd, turns: u64) -> Result<u64> {
-    let Crowd::One = crowd else {
-        bail!("visits are those of 1 thread")
-    };
+// The total that the crowd counts to from 0 by visits.
+fn count_by_visits<R: Threads + Wait + Sync>(
+    rt: &R,
+    alloc: Global,
+    crowd: Crowd,
+    turns: u64,
+) -> Result<u64> {
     let Ok((turn, pass)) = Turn::new(alloc, Counter { total: 0 }) else {
         bail!("no memory")
     };
-    let pass = visit_often(rt, &turn, pass, turns);
+    let pass = visit_in(rt, &turn, pass, crowd.threads(), turns);
     let Ok(counter) = turn.close(pass) else {
         bail!("a ticket was not passed on")
     };
@@ -334,6 +373,8 @@ pub(crate) fn play<R: Threads + Wait + Clock + Print + AllocGlobal + Sync>(
     for crowd in CROWDS {
         let (total, _) = count(rt, rt.alloc(), crowd, 1_000, false)?;
         println!(rt; "{}: {}", crowd.name(), total)?;
+        let visits = count_by_visits(rt, rt.alloc(), crowd, 1_000)?;
+        println!(rt; "{}, visits: {}", crowd.name(), visits)?;
     }
     Ok(())
 }

@@ -1,5 +1,6 @@
 -- The laws of shared shards.
 use Rattle.std.specs.Prelude.{slice_index_or}
+use Rattle.std.proofs.lemmas.List.{length-set}
 use Rattle.std.proofs.Common.{◌≡◌, ◌⊎◌, inl, inr, ℕ, zero, suc, ◌<◌, ◌≤◌, List, [], ◌∷◌, ◌++◌, length, Option, Some, None, refl, sym, ap, subst, ◌∙◌, arith, append-nil}
 use mathlib.Core.List.{IsPrefix}
 use Rattle.warm_history.specs.ReferenceSets.{ReferenceSet, ◌∪◌}
@@ -26,9 +27,9 @@ use Rattle.warm_concurrent.specs.declared.call.ShardCall.TheVariants.{Absorb, An
 use Rattle.warm_concurrent.specs.declared.call.ShardReply.{ShardReply}
 use Rattle.warm_concurrent.specs.declared.call.ShardReply.TheVariants.{Answers, Changed, Copied, Dirty, Done, Foreign, Kept, Looked, Pinned, Portion, Refused}
 use Rattle.warm_concurrent.specs.Answering.{AnswersPart, Offers, offer_at, offer_reply}
-use Rattle.warm_concurrent.specs.Attached.{Known, ShardPass, known_of, no_pass, shard_pass}
-use Rattle.warm_concurrent.specs.Clauses.{AnsweredByShard, Got}
-use Rattle.warm_concurrent.specs.Laws.{CallsAreANodes, OnlySeesMore, SeesMore, ShardIsOfGiven, TogetherAreOfGiven, all_of, asked_steps, given_by_reply, given_by_step, given_by_steps, held_by, node_steps}
+use Rattle.warm_concurrent.specs.Attached.{KeepsOtherPasses, ShardPass, known_of, no_pass, shard_pass}
+use Rattle.warm_concurrent.specs.Clauses.{Got}
+use Rattle.warm_concurrent.specs.Laws.{CallsAreANodes, OnlySeesMore, OverCalls, SeesMore, ShardIsOfGiven, TogetherAreOfGiven, all_of, asked_steps, given_by_reply, given_by_step, given_by_steps, held_by, node_steps}
 use Rattle.warm_concurrent.specs.ShardSteps.{Asked, doing, looking, changing, CallGoes, NodeGoes, NodeStep, ShardState, ShardStep, Work, calling, writing_pages, writing_some, writing_back, zeroing, forgetting, taking_in, answering, sending_since, copying, retiring, asked_of, node_reply_of}
 use Rattle.warm_concurrent.specs.Whole.{AbsorbsPart, Does, First, RaisesShard, TakesPart, part_call, part_of}
 use Rattle.warm_concurrent.proofs.Places.{at_each}
@@ -191,22 +192,7 @@ together_are_of_given (h ∷ hs) (S ∷ Ss) stand =
     ∙ ap (λ k. history (S ∪ references_of k)) (together_are_of_given hs Ss stand.1)
     ∙ history_second S (all_of Ss)
 
--- ---- what a thread has seen
-
-prefix_self : {A : Type 0} (xs : List A) → IsPrefix xs xs
-prefix_self xs = ([], append-nil xs)
-
-got_more : (v w : Known) (c : ShardCall) (r : ShardReply) → Got v c r w → IsPrefix v.seen w.seen
-got_more v w c r got = (Extended-called ShardStep v w c r got).seen
-
-same_seen : (old new : ShardPass) → new ≡ old → IsPrefix old.view.seen new.view.seen
-same_seen old new is = subst (λ (p : ShardPass). IsPrefix old.view.seen p.view.seen) (sym is) (prefix_self old.view.seen)
-
-called_more : (old new : List ShardPass) (i : ℕ) (call : ShardCall) (reply : ShardReply)
-    → i < length old → AnsweredByShard old i call reply new → SeesMore old new
-called_more old new i call reply lt (got, others) j less =
-    subst (λ (ps : List ShardPass). IsPrefix (known_of old j).seen (known_of ps j).seen) (sym others)
-    (at_each (λ k q. IsPrefix (known_of old k).seen q.view.seen) old i (shard_pass new i) no_pass lt (got_more (known_of old i) (known_of new i) call reply got) (λ k apart. prefix_self (known_of old k).seen) j)
+-- ---- what calls leave of what a thread has
 
 pub below : (a b : ℕ) → (a < b) ⊎ (b ≤ a)
 below zero zero = inr (omega arith)
@@ -214,40 +200,72 @@ below zero (suc b) = inl (omega arith)
 below (suc a) zero = inr (omega arith)
 below (suc a) (suc b) = elim (below a b) [ inl lt ↦ inl (omega (arith, lt)) | inr le ↦ inr (omega (arith, le)) ]
 
-firsts_more : (So : ℕ → ShardPass → ShardPass → Type 0)
-    → ((i : ℕ) (old new : ShardPass) → So i old new → IsPrefix old.view.seen new.view.seen) → (k : ℕ)
-    → (old new : List ShardPass) → First So k old new → SeesMore old new
-firsts_more So more k old new so j less = elim (below j k) [
-  | inl lt ↦ more j (shard_pass old j) (shard_pass new j) (so.first j lt)
-  | inr le ↦ same_seen (shard_pass old j) (shard_pass new j) (so.others j le)
-]
+-- A relation that holds of each pass and itself, and of a pass before and after a call. So it holds of
+-- all passes of a thread, before and after each call of shards.
+module _ (P : ShardPass → ShardPass → Type 0) (self : (p : ShardPass) → P p p)
+    (got : (p q : ShardPass) (c : ShardCall) (r : ShardReply) → Got p.view c r q.view → P p q) where
+  abbrev pub EachIsSo : List ShardPass → List ShardPass → Type 0
+  EachIsSo old new = (length new ≡ length old) × ((i : ℕ) → P (shard_pass old i) (shard_pass new i))
 
-part_more : (count : ℕ) (batch : List Reference) (i : ℕ) (old new : ShardPass)
-    → AbsorbsPart count batch i old new → IsPrefix old.view.seen new.view.seen
-part_more count batch i old new so = cases (part_of count i batch) refl
-  where
-    cases : (part : List Reference) → part_of count i batch ≡ part
-        → IsPrefix old.view.seen new.view.seen
-    cases [] is = same_seen old new (so.0 is)
-    cases (r ∷ rs) is = got_more old.view new.view (Absorb (part_of count i batch)) Done (so.1 (λ none. let no : r ∷ rs ≡ [] = sym is ∙ none in absurd (cc)))
+  same_so : (old new : ShardPass) → new ≡ old → P old new
+  same_so old new is = subst (λ (p : ShardPass). P old p) (sym is) (self old)
 
--- a shard that has none of the requested buckets was not called
-answer_more : (count request : ℕ) (messages : List Message) (i : ℕ) (old new : ShardPass)
-    → AnswersPart count request messages i old new → IsPrefix old.view.seen new.view.seen
-answer_more count request messages i old new (part, own, none, some) = cases part refl
-  where
-    cases : (p : ℕ) → part ≡ p → IsPrefix old.view.seen new.view.seen
-    cases zero is = same_seen old new (none is).1
-    cases (suc p) is = got_more old.view new.view (Answer part) (Answers messages) (some (λ zero_part. let no : suc p ≡ 0 = sym is ∙ zero_part in absurd (omega (arith, no))))
+  -- where one pass changes so, and the others are as they were
+  pub one_so : (old new : List ShardPass) (i : ℕ) → i < length old → KeepsOtherPasses old i new
+      → P (shard_pass old i) (shard_pass new i) → EachIsSo old new
+  one_so old new i lt others changed = (
+    ap length others ∙ length-set old i (shard_pass new i),
+    λ j. subst (λ (ps : List ShardPass). P (shard_pass old j) (shard_pass ps j)) (sym others)
+        (at_each (λ k q. P (shard_pass old k) q) old i (shard_pass new i) no_pass lt changed (λ k apart. self (shard_pass old k)) j),
+  )
+
+  firsts_so : (So : ℕ → ShardPass → ShardPass → Type 0)
+      → ((i : ℕ) (old new : ShardPass) → So i old new → P old new) → (k : ℕ)
+      → (old new : List ShardPass) → First So k old new → EachIsSo old new
+  firsts_so So each k old new so = (
+    so.count,
+    λ j. elim (below j k) [
+      | inl lt ↦ each j (shard_pass old j) (shard_pass new j) (so.first j lt)
+      | inr le ↦ same_so (shard_pass old j) (shard_pass new j) (so.others j le)
+    ],
+  )
+
+  part_so : (count : ℕ) (batch : List Reference) (i : ℕ) (old new : ShardPass)
+      → AbsorbsPart count batch i old new → P old new
+  part_so count batch i old new so = cases (part_of count i batch) refl
+    where
+      cases : (part : List Reference) → part_of count i batch ≡ part → P old new
+      cases [] is = same_so old new (so.0 is)
+      cases (r ∷ rs) is = got old new (Absorb (part_of count i batch)) Done (so.1 (λ none. let no : r ∷ rs ≡ [] = sym is ∙ none in absurd (cc)))
+
+  -- a shard that has none of the requested buckets was not called
+  answer_so : (count request : ℕ) (messages : List Message) (i : ℕ) (old new : ShardPass)
+      → AnswersPart count request messages i old new → P old new
+  answer_so count request messages i old new (part, own, none, some) = cases part refl
+    where
+      cases : (p : ℕ) → part ≡ p → P old new
+      cases zero is = same_so old new (none is).1
+      cases (suc p) is = got old new (Answer part) (Answers messages) (some (λ zero_part. let no : suc p ≡ 0 = sym is ∙ zero_part in absurd (omega (arith, no))))
+
+  pub over_calls : (So : List ShardPass → List ShardPass → Type 0)
+      → ((old new : List ShardPass) → EachIsSo old new → So old new) → OverCalls So
+  over_calls So from = record {
+    called = λ old new i call reply lt so. from old new (one_so old new i lt so.1 (got (shard_pass old i) (shard_pass new i) call reply so.0));
+    absorbed = λ old new k batch so. from old new (firsts_so (AbsorbsPart (length old) batch) (part_so (length old) batch) k old new so);
+    raised = λ old new k time so. from old new (firsts_so (RaisesShard time) (λ i p q r. got p q _ (Kept r.0) r.1) k old new so);
+    taken = λ old new k message so. from old new (firsts_so (TakesPart (length old) message) (λ i p q r. got p q (part_call (length old) message i) Done r) k old new so);
+    done = λ old new k call so. from old new (firsts_so (Does call) (λ i p q r. got p q call Done r) k old new so);
+    offered = λ old new offers k so. from old new (firsts_so (λ i. Offers (offer_at offers i) i) (λ i p q r. got p q Offer (offer_reply (offer_at offers i)) r) k old new so.1);
+    answered = λ old new request parts k so. from old new (firsts_so (λ i. AnswersPart (length old) request (slice_index_or parts i []) i) (λ i. answer_so (length old) request (slice_index_or parts i []) i) k old new so.1);
+  }
+
+-- ---- what a thread has seen
+
+prefix_self : {A : Type 0} (xs : List A) → IsPrefix xs xs
+prefix_self xs = ([], append-nil xs)
 
 pub only_sees_more : OnlySeesMore
 only_sees_more = record {
-  called = called_more;
-  absorbed = λ old new k batch so. firsts_more (AbsorbsPart (length old) batch) (part_more (length old) batch) k old new so;
-  raised = λ old new k time so. firsts_more (RaisesShard time) (λ i p q r. got_more p.view q.view _ (Kept r.0) r.1) k old new so;
-  taken = λ old new k message so. firsts_more (TakesPart (length old) message) (λ i p q r. got_more p.view q.view (part_call (length old) message i) Done r) k old new so;
-  done = λ old new k call so. firsts_more (Does call) (λ i p q r. got_more p.view q.view call Done r) k old new so;
-  offered = λ old new offers k so. firsts_more (λ i. Offers (offer_at offers i) i) (λ i p q r. got_more p.view q.view Offer (offer_reply (offer_at offers i)) r) k old new so.1;
-  answered = λ old new request parts k so. firsts_more (λ i. AnswersPart (length old) request (slice_index_or parts i []) i) (λ i. answer_more (length old) request (slice_index_or parts i []) i) k old new so.1;
+  calls = over_calls (λ p q. IsPrefix p.view.seen q.view.seen) (λ p. prefix_self p.view.seen) (λ p q c r called. (Extended-called ShardStep p.view q.view c r called).seen) SeesMore (λ old new so i lt. so.1 i);
   joined = λ old other new so i lt. (Widened-joined ShardStep (known_of old i) (known_of other i) (known_of new i) (so.each i lt)).seen;
 }

@@ -11,6 +11,7 @@ pub mod Told
 pub mod Parts
 pub mod Requests
 pub mod LawsHold
+pub mod Rights
 pub mod Sent
 pub mod Holding
 pub mod Lends

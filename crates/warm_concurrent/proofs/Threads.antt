@@ -1,5 +1,5 @@
 -- Two threads that absorb a batch each, and one that closes: both batches are held, and no more.
-use Rattle.std.proofs.Common.{◌≡◌, inl, inr, ℕ, zero, suc, ◌<◌, Bool, true, false, List, [], ◌∷◌, ◌++◌, length, refl, sym, ap, subst, ◌∙◌, arith}
+use Rattle.std.proofs.Common.{◌≡◌, inl, inr, ℕ, zero, suc, ◌<◌, Bool, true, false, List, [], ◌∷◌, ◌++◌, length, map, Result, Ok, refl, sym, ap, subst, ◌∙◌, arith}
 use Rattle.std.specs.Prelude.{◌==◌}
 use Rattle.std.proofs.lemmas.Bool.{eq-eqb}
 use mathlib.Core.Option.{some}
@@ -9,16 +9,20 @@ use Rattle.warm_stamps.specs.declared.Reference.{Reference}
 use Rattle.warm_turn.specs.declared.table.EndedPass.{EndedPass}
 use Rattle.warm_machine.specs.declared.operation.Operation.{Operation}
 use Rattle.warm_turn.specs.CallHistories.{EachIsBy, HoldsNumber, IsAmong, as_ended, calls_by}
-use Rattle.warm_turn.specs.Shares.{IsWhole, both, half, whole_share}
+use Rattle.warm_turn.specs.declared.fault.Busy.{Busy}
 use Rattle.warm_gossip.specs.State.{NodeState}
 use Rattle.warm_shards.specs.Shards.{IsShardCount}
 use Rattle.warm_concurrent.specs.declared.call.ShardCall.{ShardCall}
 use Rattle.warm_concurrent.specs.declared.call.ShardReply.{ShardReply}
 use Rattle.warm_concurrent.specs.Attached.{Known, ShardPass, ShardTurn, known_of, shard_pass}
 use Rattle.warm_concurrent.specs.Given.{AreLogs, HasMade, Log, SameGiven, TwoThreadsAreHeld, gave, gave_call, gave_together, log_at}
-use Rattle.warm_concurrent.specs.Opening.{AreFirst, AreHalved, PassesAreJoined, AreSplit}
-use Rattle.warm_concurrent.specs.Whole.{AbsorbsFirst, AbsorbsPart, part_of}
+use Rattle.warm_concurrent.specs.Laws.{OverCalls}
+use Rattle.warm_concurrent.specs.Opening.{AreClosed, AreFirst, AreHalved, PassesAreJoined, AreSplit}
+use Rattle.warm_concurrent.specs.Rights.{Come, HasWholeRight, Moves, Threads, ThreadsMove}
+use Rattle.warm_concurrent.specs.Whole.{AbsorbsFirst}
 use Rattle.warm_concurrent.proofs.Headline.{shared_is_of_given, turns_long}
+use Rattle.warm_concurrent.proofs.LawsHold.{over_calls}
+use Rattle.warm_concurrent.proofs.Rights.{alone_has_all, calls_keep, closed_gives_back}
 use Rattle.warm_concurrent.proofs.Stopping.{threads_give}
 use Rattle.warm_concurrent.proofs.Sets.{Includes, includes_both, includes_left, includes_right, includes_self, includes_trans, includes_unions, same_history, same_includes}
 
@@ -110,18 +114,38 @@ all_in P T log (e ∷ es) each more held =
     (includes_trans (gave (calls_by e.by log)) (gave (calls_by e.by (e ∷ es))) (gave_call e.call e.reply) (more e.by) (first_in e es)))
     (all_in P T log es each (λ n. includes_trans (gave (calls_by n log)) (gave (calls_by n (e ∷ es))) (gave (calls_by n es)) (more n) (rest_in n e es)) held.1)
 
--- a batch leaves the share of a pass, and those that were ended into it
-part_keeps : (count : ℕ) (batch : List Reference) (i : ℕ) (old new : ShardPass)
-    → AbsorbsPart count batch i old new
-    → (new.view.share ≡ old.view.share) × (new.view.ended ≡ old.view.ended)
-part_keeps count batch i old new so = cases (part_of count i batch) refl
-  where
-    cases : (part : List Reference) → part_of count i batch ≡ part
-        → (new.view.share ≡ old.view.share) × (new.view.ended ≡ old.view.ended)
-    cases [] is = (ap (λ (p : ShardPass). p.view.share) (so.0 is), ap (λ (p : ShardPass). p.view.ended) (so.0 is))
-    cases (r ∷ rs) is =
-        let got = so.1 (λ none. let no : r ∷ rs ≡ [] = sym is ∙ none in absurd (cc)) in
-        (got.share, got.ended)
+-- a batch leaves those that were ended into a pass
+ended_kept : OverCalls (λ old new. (i : ℕ) → (known_of new i).ended ≡ (known_of old i).ended)
+ended_kept =
+    over_calls (λ p q. q.view.ended ≡ p.view.ended) (λ p. refl) (λ p q c r got. got.ended) (λ old new. (i : ℕ) → (known_of new i).ended ≡ (known_of old i).ended)
+    (λ old new so i. so.1 i)
+
+-- one of these moves, and the others have what they had
+moves_there : (before these left after : Threads) → Moves these left
+    → ThreadsMove (before ++ these ++ after) (before ++ left ++ after)
+moves_there before these left after moves = record {
+  before = before;
+  after = after;
+  these = these;
+  left = left;
+  old_are = refl;
+  new_are = refl;
+  moves = moves;
+}
+
+-- two threads, of which one is left
+two_come : (k : ℕ) (first here there mine yours all : List ShardPass) (one two : List Reference)
+    → AreHalved first here → AreSplit first there → AbsorbsFirst one k here mine
+    → AbsorbsFirst two k there yours → PassesAreJoined mine yours all
+    → (between : List Threads) × Come (first ∷ []) between (all ∷ [])
+two_come k first here there mine yours all one two halved split absorbed also joined = (
+  (here ∷ there ∷ []) ∷ (mine ∷ there ∷ []) ∷ (mine ∷ yours ∷ []) ∷ (all ∷ []) ∷ [],
+  moves_there [] (first ∷ []) (here ∷ there ∷ []) [] (halved, split),
+  moves_there [] (here ∷ []) (mine ∷ []) (there ∷ []) (calls_keep.absorbed here mine k one absorbed),
+  moves_there (mine ∷ []) (there ∷ []) (yours ∷ []) [] (calls_keep.absorbed there yours k two also),
+  moves_there [] (mine ∷ yours ∷ []) (all ∷ []) [] joined,
+  refl,
+)
 
 module _ (turns : List ShardTurn) (first here there mine yours all : List ShardPass)
     (opens : AreFirst turns first) (halved : AreHalved first here) (split : AreSplit first there)
@@ -174,45 +198,28 @@ module _ (turns : List ShardTurn) (first here there mine yours all : List ShardP
       let n = (known_of yours i).number in
       subst (λ (l : Log). Includes (gave (log_at logs i)) (gave l)) (yours_calls more i made lt long also) (part_included n (log_at logs i))
 
-  -- what each thread's pass has when it is ended, or closes
+  -- what each thread's pass holds when it is ended, or closes
   module _ (one two : List Reference) (absorbed : AbsorbsFirst one (length turns) here mine)
       (also : AbsorbsFirst two (length turns) there yours) (here_long : length here ≡ length turns)
-      (there_long : length there ≡ length turns) (mine_long : length mine ≡ length turns) where
-    mine_kept : (i : ℕ) → i < length turns
-        → ((known_of mine i).share ≡ half whole_share) × ((known_of mine i).ended ≡ [])
-    mine_kept i lt =
-        let kept = part_keeps (length here) one i (shard_pass here i) (shard_pass mine i) (absorbed.first i lt) in
+      (there_long : length there ≡ length turns) (mine_long : length mine ≡ length turns)
+      (whole_right : HasWholeRight (length turns) all) where
+    mine_ended : (i : ℕ) → i < length turns → (known_of mine i).ended ≡ []
+    mine_ended i lt =
         let was = halved.each i (omega (arith, lt, opens.count)) in
-        let first_is = opens.views i lt in (
-          kept.0 ∙ ap (λ (p : ShardPass). p.view.share) was ∙ ap (λ (v : Known). half v.share) first_is,
-          kept.1 ∙ ap (λ (p : ShardPass). p.view.ended) was ∙ ap (λ (v : Known). v.ended) first_is,
-        )
+        ended_kept.absorbed here mine (length turns) one absorbed i ∙ ap (λ (p : ShardPass). p.view.ended) was ∙ ap (λ (v : Known). v.ended) (opens.views i lt)
 
-    yours_kept : (i : ℕ) → i < length turns
-        → ((known_of yours i).share ≡ half whole_share) × ((known_of yours i).ended ≡ [])
-    yours_kept i lt =
-        let kept = part_keeps (length there) two i (shard_pass there i) (shard_pass yours i) (also.first i lt) in
+    yours_ended : (i : ℕ) → i < length turns → (known_of yours i).ended ≡ []
+    yours_ended i lt =
         let is = split.each i (omega (arith, lt, opens.count)) in
-        let first_is = opens.views i lt in (
-          kept.0 ∙ ap (λ (v : Known). v.share) is.1 ∙ ap (λ (v : Known). half v.share) first_is,
-          kept.1 ∙ ap (λ (v : Known). v.ended) is.1,
-        )
+        ended_kept.absorbed there yours (length turns) two also i ∙ ap (λ (v : Known). v.ended) is.1
 
-    -- the closing pass has the whole right, and holds the other alone
-    all_whole : (i : ℕ) → i < length turns → IsWhole (known_of all i).share
-    all_whole i lt =
-        let is = (joined.each i (omega (arith, lt, mine_long))).1 in
-        let v = (mine_kept i lt).0 in
-        let u = (yours_kept i lt).0 in
-        let shares : (known_of all i).share ≡ both (half whole_share) (half whole_share) = ap (λ (w : Known). w.share) is ∙ (λ j. both (v j) (u j)) in
-        subst IsWhole (sym shares) refl
-
+    -- the closing pass holds the other alone
     all_ended : (i : ℕ) → i < length turns
         → (known_of all i).ended ≡ as_ended (known_of yours i) ∷ []
     all_ended i lt =
         let is = (joined.each i (omega (arith, lt, mine_long))).1 in
-        let v = (mine_kept i lt).1 in
-        let u = (yours_kept i lt).1 in
+        let v = mine_ended i lt in
+        let u = yours_ended i lt in
         ap (λ (w : Known). w.ended) is ∙ (λ j. v j ++ as_ended (known_of yours i) ∷ u j)
 
     -- so a log gives what a set has that includes what both threads gave
@@ -234,10 +241,15 @@ module _ (turns : List ShardTurn) (first here there mine yours all : List ShardP
                 | inr none ↦ absurd none
               ]
         ] in
-        all_in (HoldsNumber v) T log log each (λ n. includes_self (gave (calls_by n log))) ((are.each i lt).all (all_whole i lt))
+        all_in (HoldsNumber v) T log log each (λ n. includes_self (gave (calls_by n log))) ((are.each i lt).all (whole_right i lt))
 
 pub two_threads_are_held : TwoThreadsAreHeld
-two_threads_are_held S opened turns first here there mine yours all one two nodes valid opens stands start halved split absorbed also joined closed =
+two_threads_are_held S opened turns first here there mine yours all one two results valid opens stands start halved split absorbed also joined closes =
+    let come = two_come (length turns) first here there mine yours all one two halved split absorbed also joined in
+    let all_right : HasWholeRight (length turns) all = alone_has_all turns first all come.0 start come.1 in
+    let back = closed_gives_back turns all results all_right closes in
+    let nodes = back.0 in
+    let closed : AreClosed turns all (map (λ n. Ok n) nodes) = subst (λ (rs : List (Result NodeState Busy)). AreClosed turns all rs) back.1 closes in
     let long : length turns ≡ length opened = turns_long opened turns opens in
     let here_long : length here ≡ length turns = halved.count ∙ start.count in
     let there_long : length there ≡ length turns = split.count ∙ start.count in
@@ -262,7 +274,7 @@ two_threads_are_held S opened turns first here there mine yours all one two node
     let theirs : Includes U (gave_together right.0) = includes_right (set_of_list one) (set_of_list two) (gave_together right.0) (same_included (gave_together right.0) (set_of_list two) right.2) in
     let no_more : Includes U G = together_in U logs (λ i lt.
     let less : i < length turns = omega (arith, lt, closing.1.count) in
-    nothing_else turns first here there mine yours all start halved split joined nodes logs closing.1 one two absorbed also here_long there_long mine_long U left.0 right.0 i left.1 right.1 less
+    nothing_else turns first here there mine yours all start halved split joined nodes logs closing.1 one two absorbed also here_long there_long mine_long all_right U left.0 right.0 i left.1 right.1 less
     (includes_trans U (gave_together left.0) (gave (log_at left.0 i)) ours (one_in left.0 i (omega (arith, less, left.1.count, here_long))))
     (includes_trans U (gave_together right.0) (gave (log_at right.0 i)) theirs (one_in right.0 i (omega (arith, less, right.1.count, there_long))))) in
-    closing.2 ∙ same_history S G U (same_by_both G U has_both no_more)
+    (nodes, back.1, closing.2 ∙ same_history S G U (same_by_both G U has_both no_more))

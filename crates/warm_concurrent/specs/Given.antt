@@ -1,6 +1,6 @@
 -- What shards were given, all together, and what a thread's calls gave them.
 use Rattle.std.specs.Prelude.{◌≡◌, ℕ, ◌<◌, List, [], ◌∷◌, ◌++◌, length, map, Some, Ok}
-use Rattle.std.specs.Prelude.{slice_index_or}
+use Rattle.std.specs.Prelude.{Result, slice_index_or}
 use mathlib.Core.Option.{some}
 use mathlib.Core.List.{IsPrefix}
 use lib.ListN.{get_elem?}
@@ -13,6 +13,7 @@ use Rattle.warm_rank.specs.Laws.{IsFarthest}
 use Rattle.warm_frames.specs.declared.message.Message.{Message}
 use Rattle.warm_pool.specs.View.{unfixed_pages, view_of}
 use Rattle.warm_machine.specs.declared.operation.Operation.{Operation}
+use Rattle.warm_turn.specs.declared.fault.Busy.{Busy}
 use Rattle.warm_turn.specs.declared.table.EndedPass.{EndedPass}
 use Rattle.warm_machine.specs.Runs.{Runs, operation}
 use Rattle.warm_turn.specs.CallHistories.{EachIsBy, HoldsNumber, calls_by}
@@ -144,17 +145,18 @@ ThreadsGive = (old new : List ShardPass) → IsShardCount (length old) → Calls
 -- Two threads, used
 
 -- A thread shares shards that stand for S, and attaches another. Each absorbs a batch, and the
--- other is detached into the first, which closes the shards. Then the nodes together stand for S
--- and both batches.
+-- other is detached into the first, which closes the shards. Then all nodes come back, and together
+-- stand for S and both batches.
 abbrev pub TwoThreadsAreHeld : Type 0
 TwoThreadsAreHeld = (S : ReferenceSet) (opened : List NodeState) (turns : List ShardTurn)
     (first here there mine yours all : List ShardPass) (one two : List Reference)
-    (nodes : List NodeState) → AreShards opened → openings turns ≡ shards_over opened
-    → StandsFor (whole opened) S → AreFirst turns first → AreHalved first here
-    → AreSplit first there → AbsorbsFirst one (length turns) here mine
+    (results : List (Result NodeState Busy)) → AreShards opened
+    → openings turns ≡ shards_over opened → StandsFor (whole opened) S → AreFirst turns first
+    → AreHalved first here → AreSplit first there → AbsorbsFirst one (length turns) here mine
     → AbsorbsFirst two (length turns) there yours → PassesAreJoined mine yours all
-    → AreClosed turns all (map (λ n. Ok n) nodes)
-    → StandsFor (whole nodes) (S ∪ (set_of_list one ∪ set_of_list two))
+    → AreClosed turns all results
+    → (nodes : List NodeState) × (results ≡ map (λ n. Ok n) nodes)
+    × StandsFor (whole nodes) (S ∪ (set_of_list one ∪ set_of_list two))
 
 -- Victims
 

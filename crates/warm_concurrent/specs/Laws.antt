@@ -130,20 +130,23 @@ TogetherAreOfGiven = (hs : List HistoryView) (Ss : List ReferenceSet) → StandF
 abbrev pub SeesMore : List ShardPass → List ShardPass → Type 0
 SeesMore old new = (i : ℕ) → i < length old → IsPrefix (known_of old i).seen (known_of new i).seen
 
+-- so it is of what a thread has, before and after each call of shards that ends well
+pub record OverCalls (So : List ShardPass → List ShardPass → Type 0) : Type 0 where
+  pub called : (old new : List ShardPass) (i : ℕ) (call : ShardCall) (reply : ShardReply)
+      → i < length old → AnsweredByShard old i call reply new → So old new
+  pub absorbed : (old new : List ShardPass) (k : ℕ) (batch : List Reference)
+      → AbsorbsFirst batch k old new → So old new
+  pub raised : (old new : List ShardPass) (k time : ℕ) → RaisesFirst time k old new → So old new
+  pub taken : (old new : List ShardPass) (k : ℕ) (message : Message) → TakesFirst message k old new
+      → So old new
+  pub done : (old new : List ShardPass) (k : ℕ) (call : ShardCall) → DoneFirst call k old new
+      → So old new
+  pub offered : (old new : List ShardPass) (offers : List Offered) (k : ℕ)
+      → OffersFirst offers k old new → So old new
+  pub answered : (old new : List ShardPass) (request : ℕ) (parts : List (List Message)) (k : ℕ)
+      → AnswersFirst request parts k old new → So old new
+
 -- whatever a thread calls, it has then seen of each shard what it had seen, and maybe more
 pub record OnlySeesMore : Type 0 where
-  pub called : (old new : List ShardPass) (i : ℕ) (call : ShardCall) (reply : ShardReply)
-      → i < length old → AnsweredByShard old i call reply new → SeesMore old new
-  pub absorbed : (old new : List ShardPass) (k : ℕ) (batch : List Reference)
-      → AbsorbsFirst batch k old new → SeesMore old new
-  pub raised : (old new : List ShardPass) (k time : ℕ) → RaisesFirst time k old new
-      → SeesMore old new
-  pub taken : (old new : List ShardPass) (k : ℕ) (message : Message) → TakesFirst message k old new
-      → SeesMore old new
-  pub done : (old new : List ShardPass) (k : ℕ) (call : ShardCall) → DoneFirst call k old new
-      → SeesMore old new
-  pub offered : (old new : List ShardPass) (offers : List Offered) (k : ℕ)
-      → OffersFirst offers k old new → SeesMore old new
-  pub answered : (old new : List ShardPass) (request : ℕ) (parts : List (List Message)) (k : ℕ)
-      → AnswersFirst request parts k old new → SeesMore old new
+  pub calls : OverCalls SeesMore
   pub joined : (old other new : List ShardPass) → PassesAreJoined old other new → SeesMore old new

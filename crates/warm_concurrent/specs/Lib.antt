@@ -6,6 +6,7 @@ pub mod Faults
 pub mod Opening
 pub mod Whole
 pub mod Laws
+pub mod Rights
 pub mod Given
 pub mod Answering
 pub mod Copying

@@ -4,6 +4,7 @@ ghost use Rattle.warm_concurrent.specs.Given.{SharedIsOfGiven, SharedVictims, Th
 ghost use Rattle.warm_concurrent.specs.Given.{TwoThreadsAreHeld};
 ghost use Rattle.warm_concurrent.specs.Laws.{CallsAreANodes, OnlySeesMore, ShardIsOfGiven};
 ghost use Rattle.warm_concurrent.specs.Laws.{ShardsHoldTheirPages, TogetherAreOfGiven};
+ghost use Rattle.warm_concurrent.specs.Rights.{NodesComeBack};
 ghost use Rattle.warm_concurrent.specs.ToldDevices.{ToldAreOne};
 ghost use Rattle.std.specs.Thread.{IsSend, IsSync};
 ghost use Rattle.warm_concurrent.specs.contracts.shared.Attached.{the_row as attached_row};
@@ -32,8 +33,8 @@ pub fn shards_are_of_given()
 /// What a thread's call gives the shards: just the references of the batch that it absorbs, of one
 /// that stops just the parts of the shards before, just the horizon that it raises, just both of the
 /// message that it receives; and any other call nothing. So two threads absorb a batch each, one is
-/// detached into the other, which closes the shards: the nodes together stand for what they
-/// opened with and both batches, and for nothing else.
+/// detached into the other, which closes the shards: all nodes come back, and together stand for
+/// what they opened with and both batches, and for nothing else.
 pub fn threads_give()
     ensures given { ThreadsGive }
     ensures two { TwoThreadsAreHeld }
@@ -58,6 +59,13 @@ pub fn shards_hold_their_pages()
 /// a thread that reads several shards sees nothing older than it had seen, shard by shard.
 pub fn only_sees_more()
     ensures { OnlySeesMore }
+{}
+
+/// Whatever threads were attached, made calls and were detached: if one is left, it has the whole
+/// right to close, and then `close` gives every node back. For a call leaves the right of its
+/// thread, to attach halves it, and to detach adds that of the other.
+pub fn all_nodes_come_back()
+    ensures { NodesComeBack }
 {}
 
 /// The numbers by which the call `Retire` tells of a device are those of one state alone.
