@@ -17,7 +17,9 @@
 #include <stdatomic.h>
 #include <stdlib.h>
 #include <string.h>
+#include <sys/syscall.h>
 #include <time.h>
+#include <unistd.h>
 
 /* How many more allocations and new locks succeed, whether those after the one that fails do, how
  * many there are, and what a sync does. */
@@ -219,6 +221,17 @@ static int test_cond_timedwait(
     waits_until = until->tv_sec * 1000000000LL + until->tv_nsec;
     int status = atomic_load(&is_time_over) ? ETIMEDOUT : wait_until(of, lock, &never);
     return atomic_load(&is_time_over) ? ETIMEDOUT : status;
+}
+
+/* Whether the system orders the memory of all threads, and how often it was asked. */
+static bool system_orders = true;
+static atomic_int orders;
+
+static long test_syscall(long number, int command, int flags, int core) {
+    MUST(number == SYS_membarrier && flags == 0 && core == 0);
+    orders++;
+    errno = ENOSYS;
+    return system_orders ? syscall(number, command, flags, core) : -1;
 }
 
 static int test_fsync(int fd) {
