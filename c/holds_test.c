@@ -14,7 +14,7 @@ static void (*at_pause)(void);
 
 /* Now and then another thread has its turn. */
 static void pause_in_shard(void) {
-    if (is_paused && ++pauses % 16 == 0) sched_yield();
+    if (is_paused && ++pauses % 16 == 0) give_turn();
 }
 
 /* What a test does between two steps of a pin. */
