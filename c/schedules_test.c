@@ -544,7 +544,7 @@ static void hold_for_a_while(warm *by) {
     MUST(((opened *)by->at)->used != 0);
     holding++;
     wake(&holding);
-    for (uint64_t left = drawn(40); left > 0; left--) switch_threads();
+    for (uint64_t left = drawn(20); left > 0; left--) switch_threads();
     if (drawn(4) == 0) OK(warm_abandon(by));
     else OK(warm_unpin(by, slot));
 }
@@ -613,7 +613,7 @@ int main(int count, char **words) {
     for (uint64_t played = 0; played < schedules; played++) {
         seed = first + played;
         play_schedule();
-        if (seed % 4 == 0) play_frames();
+        play_frames();
     }
     seed = 0;
     for (int at = 0; at < THREADS; at++) free(threads[at].stack);
