@@ -21,9 +21,8 @@ static inline unsigned hold_for(const opened *its, uint64_t word) {
     return (unsigned)__builtin_ctz(~its->used);
 }
 
-/* Holds the record's page, unless another one has the record now. A hold that is given up here keeps
- * no frame from who wants one: the page is pinned in the shard next, where it is still in its frame.
- */
+/* Holds the record's page, unless another one has the record now. A hold that is given up here
+ * wakes nobody who wants a frame: the page is pinned in the shard next, if it still has its own. */
 static inline bool hold(
     opened *its, unsigned at, record *its_record, uint32_t state, uint64_t word) {
     HOLDS_PAUSE();

@@ -75,9 +75,10 @@ void wake_wanting(shard *in) {
     if (is_frame_wanted(in)) pthread_cond_broadcast(&in->call_over);
 }
 
+/* The number is changed by nothing: either who wants a frame finds this change, and so what came
+ * before it, or its own change is found here. */
 void enter_and_wake_wanting(shard *in) {
-    atomic_thread_fence(memory_order_seq_cst);
-    if (!is_frame_wanted(in)) return;
+    if (atomic_fetch_add(&in->table.wanting, 0) < ONE_WANTS) return;
     pthread_mutex_lock(&in->lock);
     pthread_cond_broadcast(&in->call_over);
     pthread_mutex_unlock(&in->lock);
