@@ -45,8 +45,8 @@ static bool is_hot;
 static int waited[THREADS];
 static const node_page hot = {.dev = PLAIN};
 
-/* Where threads want frames while one page is written: how many they are, and how many have one, for
- * all of which the write waits; whether it has begun; how many pages are to be held, and are. */
+/* Where threads want frames while one page is written: how many they are, and how many have one,
+ * for all of which the write waits; whether it has begun; how many pages are to be held, and are. */
 static int wanters, got, holders, holding;
 static bool is_being_written;
 
