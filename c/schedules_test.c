@@ -46,7 +46,7 @@ static int waited[THREADS];
 static const node_page hot = {.dev = PLAIN};
 
 /* Where threads want frames while one page is written: how many they are, and how many have one,
- * for all of which the write waits; whether it has begun; how many pages are to be held, and are. */
+ * for all of which the write waits; whether it has begun; how many are to hold pages, and do. */
 static int wanters, got, holders, holding;
 static bool is_being_written;
 
