@@ -58,7 +58,7 @@ void end_to_want(struct shard *in);
 /* By who is in a shard, where a frame may be had now: wakes who wants one. */
 void wake_wanting(struct shard *in);
 
-/* The same by who has given up a hold, and is in no shard. */
-void enter_and_wake_wanting(struct shard *in);
+/* The same by who has given up a hold, and is in no shard: seldom, so that a hit does not jump. */
+__attribute__((cold)) void enter_and_wake_wanting(struct shard *in);
 
 #endif
