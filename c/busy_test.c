@@ -204,6 +204,25 @@ static void beside_a_hold(size_t shards, int call, bool abandons) {
     end_beside_a_hold(call);
 }
 
+/* Two may want a frame at once: the second one of them needs no order of its own. */
+static void test_two_who_want(void) {
+    warm *holder = &callers[2].handle;
+    warm_slot slot;
+    begin_beside_a_hold(1, holder, &slot);
+    int before = orders;
+    begin(1, PINS, page_at(5));
+    until_waiting(1);
+    begin(3, PREFETCHES, page_at(6));
+    until_waiting(2);
+    MUST(orders == before + 1);
+    OK(warm_unpin(holder, slot));
+    end_writes(bit(0));
+    MUST(end(1) == WARM_OK && end(3) == WARM_OK && end(0) == WARM_OK);
+    MUST(is_in(&first, 5));
+    unpin(1);
+    close_all();
+}
+
 /* The pin has read its page when it begins to wait. */
 static void test_hold_behind_a_read(void) {
     warm *holder = &callers[2].handle;
@@ -266,6 +285,7 @@ static void test_holds(void) {
         beside_a_hold(1 + (size_t)way / 12, calls[way / 4 % 3], way % 4 > 1);
     }
     system_orders = true;
+    test_two_who_want();
     test_hold_behind_a_read();
     for (int call = PINS; call <= PREFETCHES; call++) {
         int question = 1;
