@@ -60,9 +60,9 @@ uint32_t nobody_wants(void) {
     return system_does(MEMBARRIER_CMD_REGISTER_PRIVATE_EXPEDITED) ? 0 : ORDERS_ITSELF;
 }
 
-/* While somebody wants a frame the system need not do it again: who has found that nobody does had
- * given up its hold before. Where it has no memory for it, this wait may last until a write is over.
- */
+/* Where somebody wants a frame already, the system need not do it again: who has found that nobody
+ * does had given up its hold before. If it has no memory for it, this wait may last until a write is
+ * over. */
 void begin_to_want(shard *in) {
     uint32_t before = atomic_fetch_add(&in->table.wanting, ONE_WANTS);
     if (before == 0 && !system_does(MEMBARRIER_CMD_PRIVATE_EXPEDITED))
