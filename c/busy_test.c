@@ -223,6 +223,20 @@ static void test_two_who_want(void) {
     close_all();
 }
 
+/* Where the system does it no more, who gives up a hold is told. */
+static void test_an_order_refused(void) {
+    warm *holder = &callers[2].handle;
+    warm_slot slot;
+    begin_beside_a_hold(1, holder, &slot);
+    system_orders = false;
+    begin(1, PINS, page_at(5));
+    until_waiting(1);
+    MUST(first_shard()->table.wanting == ORDERS_ITSELF + ONE_WANTS);
+    system_orders = true;
+    OK(warm_unpin(holder, slot));
+    end_beside_a_hold(PINS);
+}
+
 /* The pin has read its page when it begins to wait. */
 static void test_hold_behind_a_read(void) {
     warm *holder = &callers[2].handle;
@@ -286,6 +300,7 @@ static void test_holds(void) {
     }
     system_orders = true;
     test_two_who_want();
+    test_an_order_refused();
     test_hold_behind_a_read();
     for (int call = PINS; call <= PREFETCHES; call++) {
         int question = 1;
