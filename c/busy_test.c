@@ -155,6 +155,191 @@ static void test_unpin_beside_a_write(void) {
     close_all();
 }
 
+/* ---- holds that are given up while a page is written ---- */
+
+/* How many locks the call takes that gives up a hold, by the end of the handle or by an unpin. */
+static int give_up(warm *by, warm_slot slot, bool abandons) {
+    int before = taken;
+    OK(abandons ? warm_abandon(by) : warm_unpin(by, slot));
+    return taken - before;
+}
+
+/* Of the last shard: a page that is written, and one that another handle holds, which leaves for
+ * page 5 as soon as it may. */
+static uint64_t written_no, held_no;
+
+static void begin_beside_a_hold(size_t shards, warm *holder, warm_slot *slot) {
+    open_all(shards, 2 * shards);
+    written_no = shards - 1;
+    held_no = written_no + shards;
+    write_to(&first, page_at(written_no), 'd');
+    pin_twice(&first, held_no);
+    *slot = hold_page(holder, held_no);
+    reads = 0;
+    stop_writes_of(bit(written_no));
+    begin(0, WRITES_ONE, page_at(written_no));
+    until_written(bit(written_no));
+}
+
+static void end_beside_a_hold(int call) {
+    MUST(end(1) == WARM_OK && is_in(&first, 5));
+    MUST(is_in(&first, written_no) && !is_in(&first, held_no));
+    end_writes(bit(written_no));
+    MUST(end(0) == WARM_OK && put == 1);
+    if (call != PREFETCHES) unpin(1);
+    close_all();
+}
+
+static void beside_a_hold(size_t shards, int call, bool abandons) {
+    warm *holder = &callers[2].handle;
+    warm_slot slot;
+    int before = orders;
+    begin_beside_a_hold(shards, holder, &slot);
+    MUST(orders == before + 1 && give_up(holder, slot, false) == 0);
+    slot = hold_page(holder, held_no);
+    begin(1, call, page_at(5));
+    until_waiting(1);
+    not_over(1);
+    MUST(orders == before + 1 + system_orders && give_up(holder, slot, abandons) == 1);
+    end_beside_a_hold(call);
+}
+
+/* Two may want a frame at once: the second one of them needs no order of its own. */
+static void test_two_who_want(void) {
+    warm *holder = &callers[2].handle;
+    warm_slot slot;
+    begin_beside_a_hold(1, holder, &slot);
+    int before = orders;
+    begin(1, PINS, page_at(5));
+    until_waiting(1);
+    begin(3, PREFETCHES, page_at(6));
+    until_waiting(2);
+    MUST(orders == before + 1);
+    OK(warm_unpin(holder, slot));
+    end_writes(bit(0));
+    MUST(end(1) == WARM_OK && end(3) == WARM_OK && end(0) == WARM_OK);
+    MUST(is_in(&first, 5));
+    unpin(1);
+    close_all();
+}
+
+/* Where the system does it no more, who gives up a hold is told. */
+static void test_an_order_refused(void) {
+    warm *holder = &callers[2].handle;
+    warm_slot slot;
+    begin_beside_a_hold(1, holder, &slot);
+    system_orders = false;
+    begin(1, PINS, page_at(5));
+    until_waiting(1);
+    MUST(first_shard()->table.wanting == ORDERS_ITSELF + ONE_WANTS);
+    system_orders = true;
+    OK(warm_unpin(holder, slot));
+    end_beside_a_hold(PINS);
+}
+
+/* The pin has read its page when it begins to wait. */
+static void test_hold_behind_a_read(void) {
+    warm *holder = &callers[2].handle;
+    warm_slot slot;
+    begin_beside_a_hold(1, holder, &slot);
+    OK(warm_unpin(holder, slot));
+    stops_at = 5;
+    begin(1, PINS, page_at(5));
+    until_begun(1);
+    slot = hold_page(holder, held_no);
+    may_end = 1;
+    until_waiting(1);
+    not_over(1);
+    OK(warm_unpin(holder, slot));
+    end_beside_a_hold(PINS);
+    MUST(reads == 1);
+}
+
+/* A hold that is given up while who wants a frame looks for a page that may leave: at each of the
+ * questions to the node in turn, and behind the last one, when it waits. */
+static warm_slot to_give_up;
+static atomic_int questions, gives_up_at;
+static atomic_bool may_give_up;
+
+static void *give_up_when_asked(void *holder) {
+    while (!atomic_load(&may_give_up)) sched_yield();
+    OK(warm_unpin(holder, to_give_up));
+    return NULL;
+}
+
+static void ask_for_it(void) {
+    const opened *holder = callers[2].handle.at;
+    if (++questions != gives_up_at) return;
+    may_give_up = true;
+    while (atomic_load(&holder->holds->words[0]) != 0) sched_yield();
+}
+
+/* Whether the hold was given up at that question. */
+static bool gives_up_between(int call, int question) {
+    pthread_t giver;
+    begin_beside_a_hold(1, &callers[2].handle, &to_give_up);
+    questions = 0;
+    gives_up_at = question;
+    may_give_up = false;
+    at_victim = ask_for_it;
+    MUST(pthread_create(&giver, NULL, give_up_when_asked, &callers[2].handle) == 0);
+    begin(1, call, page_at(5));
+    while (!may_give_up && atomic_load(&waiting_now) == 0) sched_yield();
+    bool is_asked = atomic_exchange(&may_give_up, true);
+    MUST(pthread_join(giver, NULL) == 0);
+    end_beside_a_hold(call);
+    at_victim = NULL;
+    return is_asked;
+}
+
+static void test_holds(void) {
+    static const int calls[] = {PINS, PINS_ZEROED, PREFETCHES};
+    for (int way = 0; way < 24; way++) {
+        system_orders = way % 2 == 0;
+        beside_a_hold(1 + (size_t)way / 12, calls[way / 4 % 3], way % 4 > 1);
+    }
+    system_orders = true;
+    test_two_who_want();
+    test_an_order_refused();
+    test_hold_behind_a_read();
+    for (int call = PINS; call <= PREFETCHES; call++) {
+        int question = 1;
+        while (gives_up_between(call, question)) question++;
+        MUST(question > 4);
+    }
+}
+
+/* ---- pages that could not be written ---- */
+
+/* A page that a pin could not write may leave for it once somebody writes it, or forgets it. */
+static bool is_page_1(node_page page) { return page.no == 1; }
+
+static void behind_a_failure(bool forgets) {
+    open_dirty(2);
+    is_stuck = is_page_1;
+    stop_writes_of(bit(0));
+    begin(0, WRITES_ONE, page_at(0));
+    until_written(bit(0));
+    begin(1, PINS, page_at(5));
+    until_waiting(1);
+    not_over(1);
+    is_stuck = NULL;
+    if (forgets) OK(warm_forget_pages(&first, 0, 1));
+    else OK(warm_write_back_page(&first, page_at(1), &waiter->found));
+    MUST(end(1) == WARM_OK && is_in(&first, 0) && !is_in(&first, 1));
+    MUST(has_failure(&waiter->handle) && reads == 1 + forgets);
+    MUST(in_files[10][1] == (forgets ? 'o' : 'd'));
+    end_writes(bit(0));
+    MUST(end(0) == WARM_OK);
+    unpin(1);
+    close_all();
+}
+
+static void test_failures(void) {
+    behind_a_failure(false);
+    behind_a_failure(true);
+}
+
 /* ---- pages that before_write is asked about ---- */
 
 static atomic_bool has_asked, may_answer;
@@ -254,6 +439,8 @@ int main(void) {
     test_writes();
     test_writes_behind_a_read();
     test_unpin_beside_a_write();
+    test_holds();
+    test_failures();
     test_answers();
     test_time();
     test_limits();

@@ -17,7 +17,22 @@
 #include <stdatomic.h>
 #include <stdlib.h>
 #include <string.h>
+#include <sys/syscall.h>
 #include <time.h>
+#include <unistd.h>
+
+/* Other threads have their turn. It may be a long one of another program: there are some seconds of
+ * turns, and no test needs them. */
+static void give_turn(void) {
+    static atomic_llong spent; /* nanoseconds, of all threads */
+    struct timespec begun, ended;
+    if (atomic_load_explicit(&spent, memory_order_relaxed) > 3000000000) return;
+    clock_gettime(CLOCK_MONOTONIC, &begun);
+    sched_yield();
+    clock_gettime(CLOCK_MONOTONIC, &ended);
+    long long took = (ended.tv_sec - begun.tv_sec) * 1000000000LL + ended.tv_nsec - begun.tv_nsec;
+    atomic_fetch_add_explicit(&spent, took, memory_order_relaxed);
+}
 
 /* How many more allocations and new locks succeed, whether those after the one that fails do, how
  * many there are, and what a sync does. */
@@ -221,6 +236,17 @@ static int test_cond_timedwait(
     return atomic_load(&is_time_over) ? ETIMEDOUT : status;
 }
 
+/* Whether the system orders the memory of all threads, and how often it was asked. */
+static bool system_orders = true;
+static atomic_int orders;
+
+static long test_syscall(long number, int command, int flags, int core) {
+    MUST(number == SYS_membarrier && flags == 0 && core == 0);
+    orders++;
+    errno = ENOSYS;
+    return system_orders ? syscall(number, command, flags, core) : -1;
+}
+
 static int test_fsync(int fd) {
     if (interruptions > 0) {
         interruptions--;
@@ -233,7 +259,7 @@ static int test_fsync(int fd) {
         return -1;
     }
     MUST(__atomic_fetch_add(&in_sync[fd], 1, __ATOMIC_RELAXED) == 0);
-    sched_yield();
+    give_turn();
     if (held > most_in_sync) most_in_sync = held;
     if (at_sync != NULL) {
         void (*once)(int) = at_sync;

@@ -109,9 +109,7 @@ bool take_holds(opened *its) {
 void give_holds(opened *its) { atomic_store(&its->holds->is_used, false); }
 
 void let_go_of_holds(opened *its) {
-    for (int at = 0; at < HOLDS; at++) {
-        atomic_store_explicit(&its->holds->words[at], 0, memory_order_release);
-    }
+    while (its->used != 0) give_up_hold(its, (unsigned)__builtin_ctz(its->used));
 }
 
 void free_holds(replica *of) {
@@ -242,6 +240,7 @@ void note_left(shard *in) {
     node_counters counted = {0};
     node_counts(&in->node, &counted);
     in->table.filled = counted.resident;
+    wake_wanting(in);
 }
 
 /* ---- before a page leaves ---- */

@@ -107,6 +107,9 @@ static replica *new_replica(const warm_options *its) {
     atomic_init(&made->limit, UINT64_MAX);
     atomic_init(&made->horizon_limit, UINT64_MAX);
     atomic_init(&made->page_limit, SIZE_MAX);
+    uint32_t wanting = nobody_wants();
+    for (size_t number = 0; number < made->count; number++)
+        atomic_init(&made->shards[number].table.wanting, wanting);
     if (make_locks(made)) return made;
     free(block);
     return NULL;

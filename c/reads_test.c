@@ -437,7 +437,7 @@ static uint64_t draw(uint64_t *drawn) {
 static void yield_now_and_then(int fd, off_t at) {
     static _Thread_local uint64_t drawn = 77;
     (void)fd, (void)at;
-    if (draw(&drawn) % 3 == 0) sched_yield();
+    if (draw(&drawn) % 3 == 0) give_turn();
 }
 
 /* The page is pinned before its lock is taken, so that several threads wait for one read. */
@@ -517,7 +517,7 @@ static void test_threads(void) {
 }
 
 int main(void) {
-    alarm(120);
+    alarm(600);
     test_together();
     test_waiting();
     test_waiting_for_one();

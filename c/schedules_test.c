@@ -45,6 +45,11 @@ static bool is_hot;
 static int waited[THREADS];
 static const node_page hot = {.dev = PLAIN};
 
+/* Where threads want frames while one page is written: how many they are, and how many have one,
+ * for all of which the write waits; whether it has begun; how many are to hold pages, and do. */
+static int wanters, got, holders, holding;
+static bool is_being_written;
+
 static uint8_t byte_of(const page *of, int version) {
     MUST(version < 255);
     return version > 0 && version == of->zeros ? 0 : (uint8_t)(version + 1);
@@ -156,8 +161,15 @@ static int write_asked(void *context, uint64_t no, const void *bytes, size_t len
     return error;
 }
 
+static void await_wanters(void) {
+    is_being_written = true;
+    wake(&is_being_written);
+    while (got < wanters) await_wake(&got);
+}
+
 static int write_unasked(void *context, uint64_t no, const void *bytes, size_t length) {
     storage *of = begin_write_of(context, no);
+    if (wanters > 0 && no == 0) await_wanters();
     of->asker[no] = running;
     of->asked[no] = *(const uint8_t *)bytes;
     return end_write_of(of, no, write_asked(context, no, bytes, length));
@@ -510,6 +522,85 @@ static void play_schedule(void) {
     write_and_close();
 }
 
+/* ---- frames that are wanted while a page is written ---- */
+
+static warm_page plain_page(int no) { return (warm_page){.dev = PLAIN, .no = (uint64_t)no}; }
+
+/* A dirty page, and clean ones that have records. */
+static void fill_frames(void) {
+    kept dirty = {.page = plain_page(0)};
+    page *of = page_of_kept(&dirty);
+    OK(warm_pin(&opener, dirty.page, &dirty.slot));
+    write_byte(&opener, &dirty, of);
+    of->done = of->begun;
+    OK(warm_unpin(&opener, dirty.slot));
+    for (int time = 0; time < 2; time++)
+        for (int no = 1; no <= holders; no++) read_from(&opener, plain_page(no));
+}
+
+static void hold_for_a_while(warm *by) {
+    warm_slot slot;
+    OK(warm_pin(by, plain_page(running), &slot));
+    MUST(((opened *)by->at)->used != 0);
+    holding++;
+    wake(&holding);
+    for (uint64_t left = drawn(20); left > 0; left--) switch_threads();
+    if (drawn(4) == 0) OK(warm_abandon(by));
+    else OK(warm_unpin(by, slot));
+}
+
+static void zero_page(warm *by, warm_page which, warm_slot *slot) {
+    page *of = &pages[PLAIN][which.no];
+    of->done = of->zeros = ++of->begun;
+    OK(warm_pin_zeroed(by, which, slot));
+}
+
+/* It has its frame before the write is over, of a page that is let go. */
+static void want_frame(warm *by) {
+    warm_page which = plain_page(running);
+    warm_slot slot;
+    uint64_t way = drawn(3);
+    while (holding < holders) await_wake(&holding);
+    while (!is_being_written) await_wake(&is_being_written);
+    if (way == 0) OK(warm_prefetch(by, which));
+    else if (way == 1) zero_page(by, which, &slot);
+    else OK(warm_pin(by, which, &slot));
+    got++;
+    wake(&got);
+    while (got < wanters) await_wake(&got);
+    if (way > 0) OK(warm_unpin(by, slot));
+}
+
+static void play_wanting(void) {
+    warm *by = &attached[running];
+    bool is_written;
+    if (running == 0) OK(warm_write_back_page(by, plain_page(0), &is_written));
+    else if (running <= holders) hold_for_a_while(by);
+    else want_frame(by);
+    end_thread();
+}
+
+/* Nobody waits by chance or for some time alone, so that a wake-up that is missed is seen. */
+static void play_frames(void) {
+    draw_schedule();
+    fails = fails_syncs = wakes_for_nothing = is_hot = has_limits = is_being_written = false;
+    got = holding = 0;
+    holders = 1 + (int)drawn(2);
+    wanters = 1 + (int)drawn((uint64_t)holders);
+    system_orders = drawn(2) == 0;
+    warm_device made[DISKS];
+    for (int dev = 0; dev < DISKS; dev++) made[dev] = device_over(&disks[dev]);
+    OK(open_with(&opener, 1, 1, 1 + (size_t)holders, made, DISKS));
+    for (int at = 0; at <= holders + wanters; at++) attach_one(at);
+    fill_frames();
+    run_threads(1 + holders + wanters, play_wanting);
+    for (int at = 0; at < THREADS; at++) OK(warm_close(&attached[at]));
+    wanters = 0;
+    system_orders = true;
+    nothing_under_way();
+    write_and_close();
+}
+
 /* Where a test fails, exit is called. */
 static void say_seed(void) {
     if (seed != 0) fprintf(stderr, "in schedule %llu\n", (unsigned long long)seed);
@@ -522,6 +613,7 @@ int main(int count, char **words) {
     for (uint64_t played = 0; played < schedules; played++) {
         seed = first + played;
         play_schedule();
+        play_frames();
     }
     seed = 0;
     for (int at = 0; at < THREADS; at++) free(threads[at].stack);

@@ -21,7 +21,8 @@ static inline unsigned hold_for(const opened *its, uint64_t word) {
     return (unsigned)__builtin_ctz(~its->used);
 }
 
-/* Holds the record's page, unless another one has the record now. */
+/* Holds the record's page, unless another one has the record now. A hold that is given up here
+ * wakes nobody who wants a frame: the page is pinned in the shard next, if it still has its own. */
 static inline bool hold(
     opened *its, unsigned at, record *its_record, uint32_t state, uint64_t word) {
     HOLDS_PAUSE();
@@ -68,8 +69,7 @@ static inline bool unpin_by_hold(opened *its, warm_slot slot) {
         own_hold *it = &its->own[at];
         if (it->generation != slot.generation || it->place != place_of_slot(&slot)) continue;
         if (--it->pins > 0) return true;
-        atomic_store_explicit(&its->holds->words[at], 0, memory_order_release);
-        its->used &= ~(1u << at);
+        give_up_hold(its, at);
         return true;
     }
     return false;
@@ -187,8 +187,10 @@ static void unpin_stuck(shard *in, stuck_pages *all) {
 
 /* Writes the page that is to leave, with the shard left. What failed first is noted, also where the
  * call succeeds then. */
-static int write_victim(opened *its, shard *in, load *it, stuck_pages *all, node_page victim) {
+static int write_victim(opened *its, shard *in, load *it, stuck_pages *all) {
+    node_page victim = in->table.victim;
     int error = 0;
+    unpin_stuck(in, all);
     bool is_outside = write_outside(its, in, victim, &error);
     if (error == 0) it->is_for_node = !is_outside || ++it->tries >= TRIES;
     if (error == 0) return WARM_OK;
@@ -198,17 +200,29 @@ static int write_victim(opened *its, shard *in, load *it, stuck_pages *all, node
     return WARM_OK;
 }
 
+/* Where no page may leave, and one that is being written would: waits until one may, with the shard
+ * left. Holds may have been given up since it was found so: they are looked at once more. Returns
+ * WARM_OK or READ_AGAIN, where it is to be looked for again; WARM_ALL_PINNED; or WARM_BUSY. */
+static int wait_for_frame(opened *its, shard *in, patience *left, stuck_pages *all) {
+    if (in->writes == NULL) return WARM_ALL_PINNED;
+    begin_to_want(in);
+    bool is_there = has_victim(its, in);
+    int status = is_there || is_victim_written(its, in) ? WARM_OK : WARM_ALL_PINNED;
+    if (all != NULL) unpin_stuck(in, all);
+    if (!is_there && status == WARM_OK) status = await_call(its, in, left);
+    end_to_want(in);
+    return status;
+}
+
 /* Leaves the shard to write the page that is to leave, or to wait for a frame whose page is being
  * written, and looks again which one is to leave, until the node can be asked. */
 static int load_after_writes(opened *its, shard *in, load *it, stuck_pages *all, int status) {
     while (status == WRITE_FIRST || status == WARM_ALL_PINNED) {
-        bool waits = status == WARM_ALL_PINNED;
         unpin_passed(in);
-        if (waits && !is_victim_written(its, in)) return status;
-        unpin_stuck(in, all);
-        status = waits ? wait_for_any_write(its, in, &it->left)
-                       : write_victim(its, in, it, all, in->table.victim);
-        if (status == WARM_EVICT_FAULT || status == WARM_BUSY) return status;
+        status = status == WARM_ALL_PINNED ? wait_for_frame(its, in, &it->left, all)
+                                           : write_victim(its, in, it, all);
+        if (status == WARM_EVICT_FAULT || status == WARM_BUSY || status == WARM_ALL_PINNED)
+            return status;
         if (it->begun->is_stale) return READ_AGAIN;
         pin_stuck(in, all);
         status = load_once(its, in, it);
@@ -292,8 +306,7 @@ static int may_load(opened *its, shard *in, load *it) {
     if (it->page.dev >= of->device_count) return WARM_NO_DEVICE;
     if (it->page.no >= of->devices[it->page.dev].pages) return WARM_NO_PAGE;
     if (it->kind == LOAD_PINS_ZEROED || has_room(its, in)) return WARM_OK;
-    if (!is_victim_written(its, in)) return WARM_ALL_PINNED;
-    return wait_for_any_write(its, in, &it->left);
+    return wait_for_frame(its, in, &it->left, NULL);
 }
 
 static int read_and_pin(opened *its, shard *in, load *it) {
@@ -377,7 +390,10 @@ __attribute__((noinline)) static int pin_slowly(
     return status;
 }
 
-int warm_pin_bytes(warm *handle, warm_page page, warm_slot *slot, const uint8_t **bytes) {
+/* A hit takes up to a tenth more where jumps cross lines of memory: so it is not up to the code
+ * before this function and warm_unpin. */
+__attribute__((aligned(LINE))) int warm_pin_bytes(
+    warm *handle, warm_page page, warm_slot *slot, const uint8_t **bytes) {
     opened *its = handle->at;
     if (its == NULL) return WARM_CLOSED;
     node_page its_page = page_in(page);
@@ -405,13 +421,13 @@ __attribute__((noinline)) static int unpin_in_shard(opened *its, warm_slot slot)
     int status = node_unpin(&in->node, slot_in(slot));
     pin_write(in, written);
     if (status == WARM_OK) in->table.pinned--;
-    if (in->wanting > 0) pthread_cond_broadcast(&in->call_over);
+    wake_wanting(in);
     leave(in, is_locked);
     if (status == WARM_OK) its->pins--;
     return status;
 }
 
-int warm_unpin(warm *handle, warm_slot slot) {
+__attribute__((aligned(LINE))) int warm_unpin(warm *handle, warm_slot slot) {
     opened *its = handle->at;
     if (its == NULL) return WARM_CLOSED;
     return unpin_by_hold(its, slot) ? WARM_OK : unpin_in_shard(its, slot);

@@ -36,10 +36,9 @@ typedef struct shard {
     _Alignas(LINE) pthread_mutex_t lock;
     node node;
     reading *reads; /* pages that are being read */
-    _Alignas(LINE) pthread_cond_t call_over; /* a read, a write, or its copying */
+    _Alignas(LINE) pthread_cond_t call_over; /* a read, a write, its copying; a frame may be had */
     bool may_be_dirty; /* where not, no page is, and the node need not look at each frame */
     unsigned leaving;  /* how many wait for writes, to forget pages or replace a device */
-    unsigned wanting;  /* how many wait for a frame */
     writing *writes;   /* pages that are being written */
     size_t hand;       /* the frame with which the next portion of a write-back begins */
     _Alignas(LINE) table table;
@@ -113,6 +112,17 @@ typedef struct opened {
     /* bit i: in the call that is made, a write to device i has failed; 0 between calls */
     uint8_t unwritten[];
 } opened;
+
+/* Gives up a hold that the handle uses, and wakes who wants a frame (waits.h). */
+static inline void give_up_hold(opened *its, unsigned at) {
+    shard *in = &its->shards[its->own[at].place >> SLOT_SHARD];
+    its->used &= ~(1u << at);
+    atomic_store_explicit(&its->holds->words[at], 0, memory_order_release);
+    HOLDS_PAUSE();
+    atomic_signal_fence(memory_order_seq_cst); /* the compiler keeps the two in this order */
+    if (atomic_load_explicit(&in->table.wanting, memory_order_relaxed) != 0)
+        enter_and_wake_wanting(in);
+}
 
 static inline size_t bytes_of_devices(const replica *of) { return (of->device_count + 7) / 8; }
 

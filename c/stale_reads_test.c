@@ -336,7 +336,7 @@ static void test_closing(void) {
 }
 
 int main(void) {
-    alarm(120);
+    alarm(600);
     test_forgetting();
     forgetting_all(0);
     forgetting_all(1);

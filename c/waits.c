@@ -1,11 +1,15 @@
 /*
  * waits.c: how long calls wait, as waits.h says. Nothing here is proved; c/check tests it.
  */
+#define _DEFAULT_SOURCE 1 /* syscall */
 #define _POSIX_C_SOURCE 200809L /* clock_gettime, pthread_cond_timedwait */
 #include "waits.h"
 #include "shards.h"
 
 #include <errno.h>
+#include <linux/membarrier.h>
+#include <sys/syscall.h>
+#include <unistd.h>
 
 enum { MILLISECONDS = 1000, NANOSECONDS = 1000000000 };
 
@@ -45,4 +49,39 @@ int look_again(const opened *its, patience *left) {
     bool is_over = now.tv_sec > left->until.tv_sec ||
                    (now.tv_sec == left->until.tv_sec && now.tv_nsec >= left->until.tv_nsec);
     return is_over ? WARM_BUSY : READ_AGAIN;
+}
+
+/* ---- who wants a frame ---- */
+
+static bool system_does(int command) { return syscall(SYS_membarrier, command, 0, 0) == 0; }
+
+/* The system is asked once whether it will do so. */
+uint32_t nobody_wants(void) {
+    return system_does(MEMBARRIER_CMD_REGISTER_PRIVATE_EXPEDITED) ? 0 : ORDERS_ITSELF;
+}
+
+/* Where somebody wants a frame already, the system need not do it again: who found that nobody does
+ * had given up its hold before. If it has no memory for it, this wait may last until a write is
+ * over. */
+void begin_to_want(shard *in) {
+    uint32_t before = atomic_fetch_add(&in->table.wanting, ONE_WANTS);
+    if (before == 0 && !system_does(MEMBARRIER_CMD_PRIVATE_EXPEDITED))
+        atomic_fetch_or(&in->table.wanting, ORDERS_ITSELF);
+}
+
+void end_to_want(shard *in) { atomic_fetch_sub(&in->table.wanting, ONE_WANTS); }
+
+static bool is_frame_wanted(shard *in) { return atomic_load(&in->table.wanting) >= ONE_WANTS; }
+
+void wake_wanting(shard *in) {
+    if (is_frame_wanted(in)) pthread_cond_broadcast(&in->call_over);
+}
+
+/* The number is changed by nothing: either who wants a frame finds this change, and so what came
+ * before it, or its own change is found here. */
+void enter_and_wake_wanting(shard *in) {
+    if (atomic_fetch_add(&in->table.wanting, 0) < ONE_WANTS) return;
+    pthread_mutex_lock(&in->lock);
+    pthread_cond_broadcast(&in->call_over);
+    pthread_mutex_unlock(&in->lock);
 }

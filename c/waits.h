@@ -6,11 +6,22 @@
  * again, or take each frame that may be had. So a handle can have a limit of time, which all waits
  * of a call share. Who waits for calls that are under way, and for none that begin later, needs
  * none: write-backs (writes.h), and who forgets pages or replaces a device.
+ *
+ * Who waits for a frame is also woken where a pin is taken back, a page is written, or pages leave.
+ * A hold is given up with no shard entered (give_up_hold of shards.h). Its word is 0 first; then
+ * its holder looks whether somebody wants a frame. Who wants one says so first, and then looks at
+ * the holds. So one of the two sees the other, as long as each one's store comes before its look. A
+ * processor may turn these round. So who wants a frame has the system order the memory of all
+ * threads between the two (membarrier): either the holder's store came before that, and is seen, or
+ * its look comes after it, and sees. A hit has no fence for this: with an exchange in place of the
+ * holder's store it took a tenth more. Where the system does not do so, the holder does, and finds
+ * that in the same number (ORDERS_ITSELF).
  */
 #ifndef WAITS_H
 #define WAITS_H
 
 #include <stdbool.h>
+#include <stdint.h>
 #include <time.h>
 
 struct opened;
@@ -31,5 +42,23 @@ int await_call(const struct opened *its, struct shard *in, patience *left);
 
 /* The same for who looks again without a wait. */
 int look_again(const struct opened *its, patience *left);
+
+/* Of table.wanting: set where who gives up a hold orders its store and its look by itself; and what
+ * is added for each who waits. */
+enum { ORDERS_ITSELF = 1, ONE_WANTS = 2 };
+
+/* The first value of table.wanting. */
+uint32_t nobody_wants(void);
+
+/* By who is in a shard: says that it wants a frame, before it looks at the holds, and that it does
+ * no more. */
+void begin_to_want(struct shard *in);
+void end_to_want(struct shard *in);
+
+/* By who is in a shard, where a frame may be had now: wakes who wants one. */
+void wake_wanting(struct shard *in);
+
+/* The same by who has given up a hold, and is in no shard: seldom, so that a hit does not jump. */
+__attribute__((cold)) void enter_and_wake_wanting(struct shard *in);
 
 #endif

@@ -25,6 +25,7 @@ static void end_write(shard *in, writing *it, int error) {
         at->error = error;
     }
     if (it->is_awaited) pthread_cond_broadcast(&in->call_over);
+    else wake_wanting(in);
 }
 
 writing *write_of_page(const shard *in, node_page page) {
@@ -76,14 +77,6 @@ bool wait_for_write(shard *in, node_page page, int *error) {
     while (!own.is_over) await_write(in, at);
     *error = own.error;
     return true;
-}
-
-int wait_for_any_write(const opened *its, shard *in, patience *left) {
-    for (writing *at = in->writes; at != NULL; at = at->next) at->is_awaited = true;
-    in->wanting++;
-    int status = await_call(its, in, left);
-    in->wanting--;
-    return status;
 }
 
 void wait_for_writes(shard *in, uint16_t dev, uint64_t from) {

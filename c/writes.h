@@ -70,10 +70,6 @@ void note_change(writing *at);
  * came of it. */
 bool wait_for_write(struct shard *in, node_page page, int *error);
 
-/* Waits until one of the pages is written that are being written, or one is unpinned in the node,
- * and returns READ_AGAIN; or WARM_BUSY. */
-int wait_for_any_write(const struct opened *its, struct shard *in, patience *left);
-
 /* Whether pages of a device are being written, with this number and above; and waits until none
  * is. */
 bool are_written(const struct shard *in, uint16_t dev, uint64_t from);

@@ -28,7 +28,7 @@ static uint64_t draw(uint64_t below) {
 }
 
 static void yield_now_and_then(void) {
-    if (draw(3) == 0) sched_yield();
+    if (draw(3) == 0) give_turn();
 }
 
 /* Nobody writes a page meanwhile, and one call at a time reads it. */

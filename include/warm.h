@@ -24,7 +24,8 @@
    of a handle at a time. A call waits while another call reads its page, and before it writes a
    page, while another writes it. If that read or write fails, the call makes its own. If another
    call's second write is under way by then, the call has its result. If all pages that could leave
-   for its page are being written, a pin waits for one of these writes. See warm_limit_waits.
+   for its page are being written, a pin waits for one of these writes or an unpin. See
+   warm_limit_waits.
    The calls on a shard have one order; a call on several shards is not one step.
 
    You may pass any slot, page, number, length, message or descriptor: the call is refused, or does

@@ -3,13 +3,15 @@
  *
  * Each thread has a handle of its own, and makes calls that are drawn: pins, reads, writes through
  * the library and in place, references, checkpoints, horizons, gossip with a second replica of one
- * shard, detaching and attaching again, and calls that must be refused. The model knows what is in
+ * shard, detaching and attaching again, and calls that must be refused. Half of the threads do not
+ * wait for others, or for a millisecond or two: a call that is refused for that changes nothing, and
+ * is made again where it must succeed. The model knows what is in
  * each page, how many pins it has, and the two latest references to it of each thread. What a page
  * holds is compared at each pin; and at the end, by one thread: that no pin is left (each shard
  * takes as many pages as it has frames), what is in the files, and the histories of both replicas,
  * whose frames this program reads by itself. Each pin of a pinned page gives the same slot and
  * address. The horizon of each shard is the latest time that a thread asked for. A list has each
- * page that is known, once. Prints how many calls were made.
+ * page that is known, once. Prints how many calls were made, and how many were out of time.
  *
  * Latches on pages are the caller's (docs/C.md): a page's latch is held while its bytes are read or written. There is no other: before a page is
  * written to its file the device tries the page's latch, and skips the page where another thread has it to write. While it has the latch the page is
@@ -111,6 +113,7 @@ struct player {
     warm handle;
     uint16_t number; /* the replica of its references, from 1 on */
     uint64_t drawn, calls;
+    bool has_limit; /* of waits */
     int held_count;
     struct held held[MOST_HELD];
     warm_reference batch[BATCH];
@@ -123,7 +126,7 @@ static warm first, peer;                                 /* of one thread at a t
 static pthread_mutex_t first_lock = PTHREAD_MUTEX_INITIALIZER, peer_lock = PTHREAD_MUTEX_INITIALIZER;
 static size_t shards;
 static int files[DEVICES], dump; /* that of the peer's lock */
-static atomic_uint_fast64_t now = 1, horizon;
+static atomic_uint_fast64_t now = 1, horizon, out_of_time;
 static atomic_bool is_over;
 
 static uint64_t draw(struct player *player) {
@@ -238,11 +241,34 @@ static bool is_same_slot(warm_slot slot, warm_slot other) {
     return slot.generation == other.generation && slot.index == other.index && slot.shard == other.shard;
 }
 
-/* Whether the page could be pinned: each frame of its shard may have a pinned page, or one whose latch another thread has. */
+/* Whether a call was refused as its time was over: one of a handle that has a limit. */
+static bool is_busy(const struct player *player, int status) {
+    if (status != WARM_BUSY) return false;
+    MUST(player->has_limit);
+    atomic_fetch_add(&out_of_time, 1);
+    return true;
+}
+
+/* The call, again and again until its time is not over; and what holds after each refusal. */
+#define UNTIL_OK(player, call, unchanged)                    \
+    for (int status = WARM_BUSY; status != WARM_OK;) {       \
+        status = (call);                                     \
+        if (is_busy(player, status)) MUST(unchanged);        \
+        else OK(status);                                     \
+    }
+
+static const warm_slot no_slot = {.generation = 77, .index = 77, .shard = 77};
+
+/* Whether the page could be pinned: each frame of its shard may have a pinned page, or one whose latch another thread has, or the time may be over. */
 static bool pins(struct player *player, warm_page page, warm_slot *slot, const uint8_t **bytes) {
     bool is_one_call = draw(player) % 2 == 0;
+    *slot = no_slot;
+    *bytes = NULL;
     int status = is_one_call ? warm_pin_bytes(&player->handle, page, slot, bytes) : warm_pin(&player->handle, page, slot);
-    if (status == WARM_ALL_PINNED || status == WARM_EVICT_FAULT) return false;
+    if (status == WARM_ALL_PINNED || status == WARM_EVICT_FAULT || is_busy(player, status)) {
+        MUST(is_same_slot(*slot, no_slot) && *bytes == NULL);
+        return false;
+    }
     OK(status);
     if (!is_one_call) OK(warm_bytes(&player->handle, *slot, bytes));
     MUST(slot->shard == (page.dev + page.no) % BUCKETS % shards && slot->index < FRAMES / shards);
@@ -275,13 +301,27 @@ static void read_page(struct player *player) {
 }
 
 static void write_in_place(struct player *player, struct held held, uint64_t version) {
-    uint8_t *bytes;
+    uint8_t *bytes = NULL;
     uint64_t words[WORDS];
     fill(words, held.page, version);
-    OK(warm_bytes_mut(&player->handle, held.slot, &bytes));
+    UNTIL_OK(player, warm_bytes_mut(&player->handle, held.slot, &bytes), bytes == NULL);
     MUST(bytes == held.bytes);
     memcpy(bytes, words, PAGE_SIZE);
-    if (draw(player) % 2 == 0) OK(warm_mark_dirty(&player->handle, held.slot)); /* once more */
+    if (draw(player) % 2 == 0) UNTIL_OK(player, warm_mark_dirty(&player->handle, held.slot), true); /* once more */
+}
+
+/* A half of the page; it is as it was where the time is over. */
+static void write_half(struct player *player, const struct held *held, size_t at, const uint64_t *words) {
+    uint8_t before[PAGE_SIZE];
+    memcpy(before, held->bytes, PAGE_SIZE);
+    UNTIL_OK(player, warm_write(&player->handle, held->slot, at, words + at / 8, PAGE_SIZE / 2), memcmp(before, held->bytes, PAGE_SIZE) == 0);
+}
+
+static void zero_page(struct player *player, const struct held *held) {
+    warm_slot slot = no_slot;
+    UNTIL_OK(player, warm_pin_zeroed(&player->handle, held->page, &slot), is_same_slot(slot, no_slot));
+    MUST(is_same_slot(slot, held->slot) && slot.hit == 1);
+    OK(warm_unpin(&player->handle, slot));
 }
 
 /* Under the page's latch. */
@@ -290,14 +330,11 @@ static void give_version(struct player *player, struct held held, uint64_t versi
     uint64_t kind = draw(player) % 4;
     fill(words, held.page, version);
     if (kind == 0) {
-        warm_slot slot;
-        OK(warm_pin_zeroed(&player->handle, held.page, &slot));
-        MUST(is_same_slot(slot, held.slot) && slot.hit == 1);
-        OK(warm_unpin(&player->handle, slot));
+        zero_page(player, &held);
         version = 0;
     } else if (kind == 1) {
-        OK(warm_write(&player->handle, held.slot, 0, words, PAGE_SIZE / 2));
-        OK(warm_write(&player->handle, held.slot, PAGE_SIZE / 2, words + WORDS / 2, PAGE_SIZE / 2));
+        write_half(player, &held, 0, words);
+        write_half(player, &held, PAGE_SIZE / 2, words);
     } else {
         write_in_place(player, held, version);
     }
@@ -459,9 +496,9 @@ static void look(struct player *player) {
     OK(warm_counts(&player->handle, &counters));
     MUST(counters.resident <= FRAMES && counters.dirty <= counters.resident);
     int status = warm_step(&player->handle, &found, &page);
-    MUST(status == WARM_OK || status == WARM_ALL_PINNED || status == WARM_EVICT_FAULT);
+    MUST(status == WARM_OK || status == WARM_ALL_PINNED || status == WARM_EVICT_FAULT || is_busy(player, status));
     status = warm_prefetch(&player->handle, draw_page(player));
-    MUST(status == WARM_OK || status == WARM_ALL_PINNED || status == WARM_EVICT_FAULT);
+    MUST(status == WARM_OK || status == WARM_ALL_PINNED || status == WARM_EVICT_FAULT || is_busy(player, status));
 }
 
 /* What must be refused, and changes nothing. */
@@ -489,6 +526,8 @@ static void attach(struct player *player) {
     OK(warm_attach(&first, &player->handle));
     IS(WARM_ATTACHED, warm_close(&first));
     pthread_mutex_unlock(&first_lock);
+    player->has_limit = draw(player) % 2 == 0;
+    if (player->has_limit) OK(warm_limit_waits(&player->handle, draw(player) % 3));
 }
 
 static void play_once(struct player *player) {
@@ -701,7 +740,7 @@ int main(int count, char **words) {
     check_end();
     for (int dev = 0; dev < DEVICES; dev++) close(files[dev]);
     close(dump);
-    printf("stress: %zu shards, %u threads, %llu calls as expected, %llu pages skipped\n", shards, threads, (unsigned long long)calls,
-        (unsigned long long)atomic_load(&skipped));
+    printf("stress: %zu shards, %u threads, %llu calls as expected, %llu out of time, %llu pages skipped\n", shards, threads,
+        (unsigned long long)calls, (unsigned long long)atomic_load(&out_of_time), (unsigned long long)atomic_load(&skipped));
     return 0;
 }

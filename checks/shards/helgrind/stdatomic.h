@@ -52,6 +52,7 @@ static inline void unlock_atomic(pthread_mutex_t *its_lock) { pthread_mutex_unlo
 #undef atomic_fetch_add_explicit
 #undef atomic_fetch_sub
 #undef atomic_fetch_sub_explicit
+#undef atomic_fetch_or
 
 #define atomic_load(at) WITH_LOCK(at, __atomic_load_n(at, __ATOMIC_SEQ_CST))
 #define atomic_load_explicit(at, order) atomic_load(at)
@@ -70,5 +71,7 @@ static inline void unlock_atomic(pthread_mutex_t *its_lock) { pthread_mutex_unlo
 #define atomic_fetch_sub(at, value) \
     WITH_VALUE(at, value, __atomic_fetch_sub(at, its_value, __ATOMIC_SEQ_CST))
 #define atomic_fetch_sub_explicit(at, value, order) atomic_fetch_sub(at, value)
+#define atomic_fetch_or(at, value) \
+    WITH_VALUE(at, value, __atomic_fetch_or(at, its_value, __ATOMIC_SEQ_CST))
 
 #endif
