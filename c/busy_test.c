@@ -137,9 +137,10 @@ static void test_writes(void) {
 }
 
 /* A page that is unpinned may leave: who waits for a frame waits no longer for the write. */
-static void test_unpin_beside_a_write(void) {
+static void unpin_beside_a_write(bool abandons) {
+    warm *by = &callers[2].handle;
     open_dirty(2);
-    warm_slot slot = pin(&first, 1);
+    warm_slot slot = pin(by, 1);
     OK(warm_write_back_page(&first, page_at(1), &waiter->found));
     stop_writes_of(bit(0));
     begin(0, WRITES_ONE, page_at(0));
@@ -147,12 +148,17 @@ static void test_unpin_beside_a_write(void) {
     begin(1, PINS, page_at(5));
     until_waiting(1);
     not_over(1);
-    OK(warm_unpin(&first, slot));
+    OK(abandons ? warm_abandon(by) : warm_unpin(by, slot));
     MUST(end(1) == WARM_OK && is_in(&first, 0) && !is_in(&first, 1));
     end_writes(bit(0));
     MUST(end(0) == WARM_OK);
     unpin(1);
     close_all();
+}
+
+static void test_unpin_beside_a_write(void) {
+    unpin_beside_a_write(false);
+    unpin_beside_a_write(true);
 }
 
 /* ---- holds that are given up while a page is written ---- */
