@@ -222,6 +222,23 @@ static void test_hold_behind_a_read(void) {
     MUST(reads == 1);
 }
 
+/* A pin that finds the record closed takes back its hold and wakes nobody, as it pins the page in
+ * the shard next. Another call may be first, and load a page in its place, which may leave then. */
+static void test_hold_in_vain(void) {
+    warm *holder = &callers[2].handle;
+    warm_slot slot;
+    begin_beside_a_hold(holder, &slot);
+    opened *its = holder->at;
+    begin(1, PINS, page_at(5));
+    until_waiting(1);
+    not_over(1);
+    its->used = 0;
+    atomic_store(&its->holds->words[0], 0);
+    OK(warm_prefetch(&first, page_at(7)));
+    end_beside_a_hold(PINS);
+    MUST(reads == 2);
+}
+
 /* A hold that is given up while who wants a frame looks for a page that may leave: at each of the
  * questions to the node in turn, and behind the last one, when it waits. */
 static warm_slot to_give_up;
@@ -267,6 +284,7 @@ static void test_holds(void) {
     }
     system_orders = true;
     test_hold_behind_a_read();
+    test_hold_in_vain();
     for (int call = PINS; call <= PREFETCHES; call++) {
         int question = 1;
         while (gives_up_between(call, question)) question++;
