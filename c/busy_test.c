@@ -137,9 +137,10 @@ static void test_writes(void) {
 }
 
 /* A page that is unpinned may leave: who waits for a frame waits no longer for the write. */
-static void test_unpin_beside_a_write(void) {
+static void unpin_beside_a_write(bool abandons) {
+    warm *by = &callers[2].handle;
     open_dirty(2);
-    warm_slot slot = pin(&first, 1);
+    warm_slot slot = pin(by, 1);
     OK(warm_write_back_page(&first, page_at(1), &waiter->found));
     stop_writes_of(bit(0));
     begin(0, WRITES_ONE, page_at(0));
@@ -147,12 +148,17 @@ static void test_unpin_beside_a_write(void) {
     begin(1, PINS, page_at(5));
     until_waiting(1);
     not_over(1);
-    OK(warm_unpin(&first, slot));
+    OK(abandons ? warm_abandon(by) : warm_unpin(by, slot));
     MUST(end(1) == WARM_OK && is_in(&first, 0) && !is_in(&first, 1));
     end_writes(bit(0));
     MUST(end(0) == WARM_OK);
     unpin(1);
     close_all();
+}
+
+static void test_unpin_beside_a_write(void) {
+    unpin_beside_a_write(false);
+    unpin_beside_a_write(true);
 }
 
 /* ---- holds that are given up while a page is written ---- */
@@ -255,6 +261,23 @@ static void test_hold_behind_a_read(void) {
     MUST(reads == 1);
 }
 
+/* A pin that finds the record closed takes back its hold and wakes nobody, as it pins the page in
+ * the shard next. Another call may be first, and load a page in its place, which may leave then. */
+static void test_hold_in_vain(void) {
+    warm *holder = &callers[2].handle;
+    warm_slot slot;
+    begin_beside_a_hold(holder, &slot);
+    opened *its = holder->at;
+    begin(1, PINS, page_at(5));
+    until_waiting(1);
+    not_over(1);
+    its->used = 0;
+    atomic_store(&its->holds->words[0], 0);
+    OK(warm_prefetch(&first, page_at(7)));
+    end_beside_a_hold(PINS);
+    MUST(reads == 2);
+}
+
 /* A hold that is given up while who wants a frame looks for a page that may leave: at each of the
  * questions to the node in turn, and behind the last one, when it waits. */
 static warm_slot to_give_up;
@@ -302,6 +325,7 @@ static void test_holds(void) {
     test_two_who_want();
     test_an_order_refused();
     test_hold_behind_a_read();
+    test_hold_in_vain();
     for (int call = PINS; call <= PREFETCHES; call++) {
         int question = 1;
         while (gives_up_between(call, question)) question++;

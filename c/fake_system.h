@@ -231,6 +231,7 @@ static int test_clock(clockid_t clock, struct timespec *shown) {
 static int test_cond_timedwait(
     pthread_cond_t *of, pthread_mutex_t *lock, const struct timespec *until) {
     static const struct timespec never = {.tv_sec = INT64_C(1) << 40};
+    MUST(until->tv_nsec >= 0 && until->tv_nsec < 1000000000); /* else the system refuses to wait */
     waits_until = until->tv_sec * 1000000000LL + until->tv_nsec;
     int status = atomic_load(&is_time_over) ? ETIMEDOUT : wait_until(of, lock, &never);
     return atomic_load(&is_time_over) ? ETIMEDOUT : status;

@@ -189,11 +189,11 @@ static void test_closing(void) {
     MUST(warm_close(&handle) == WARM_OK && warm_abandon(&handle) == WARM_OK);
 }
 
-/* An attached handle that is abandoned holds nothing back: what it pinned by a hold may leave, and
- * what it pinned in a node stays. */
+/* An attached handle that is abandoned holds nothing back: what it pinned may leave, be it by a
+ * hold or in a node. */
 static void test_abandoning(void) {
     warm first = {0}, second = {0}, third = {0};
-    warm_slot slot;
+    warm_slot slot, other;
     OK(open_with(&first, 1, 1, 2, devices, FAKE_DEVICES));
     OK(warm_attach(&first, &second));
     OK(warm_attach(&first, &third)); /* so that nobody is alone */
@@ -205,14 +205,17 @@ static void test_abandoning(void) {
     OK(warm_abandon(&second));
     MUST(second.at == NULL && warm_unpin(&second, slot) == WARM_CLOSED);
     OK(warm_pin(&first, page_at(2), &slot));
-    MUST(slot.index == 0 && is_in(&first, 1));
+    OK(warm_pin(&first, page_at(3), &other));
+    MUST(slot.index == 0 && other.index == 1);
     OK(warm_unpin(&first, slot));
+    OK(warm_unpin(&first, other));
+    no_pins(&first);
     OK(warm_close(&third));
     OK(warm_close(&first));
     nothing_left();
 }
 
-/* A thread ends with pins, and another one abandons its handle: the others go on, and close. */
+/* A thread ends with pins, and another one abandons its handle. */
 static void *end_with_pins(void *handle) {
     pin_twice(handle, 0);
     hold_page(handle, 0);
@@ -232,13 +235,75 @@ static void test_ended_thread(void) {
         MUST(warm_close(&first) == WARM_ATTACHED && warm_close(&second) == WARM_PINS_LEFT);
         MUST(warm_forget_pages(&first, 0, 2) == WARM_PINNED);
         OK(warm_abandon(&second));
-        for (uint64_t no = 4; no < 8; no++) /* of shard 0 */
-            MUST(read_from(&first, page_at(no * 2 * count)) == 0);
-        MUST(!is_in(&first, 0) && is_in(&first, 1) && is_in(&first, 2));
-        MUST(warm_forget_pages(&first, 0, 2) == WARM_PINNED);
+        no_pins(&first);
+        OK(warm_forget_pages(&first, 0, 0));
+        OK(warm_replace(&first, 0, &devices[0]));
         OK(warm_close(&first));
         nothing_left();
     }
+}
+
+/* How many pins callers have in the nodes, as the shards know and as the nodes have them. */
+static size_t pins_in_nodes(warm *handle) {
+    opened *its = handle->at;
+    size_t counted = 0, pins = 0;
+    for (size_t number = 0; number < its->count; number++) {
+        counted += its->shards[number].table.pinned;
+        for (size_t at = 0; at < FAKE_FRAMES; at++) pins += node_of(handle, number)->at[at].pins;
+    }
+    MUST(counted == pins);
+    return pins;
+}
+
+enum { MANY_PINS = 3 * KNOWN_PINS };
+
+/* Of more pins than it knows an abandoned handle takes back these alone, and none of another
+ * handle. The first ones were unpinned and made again. */
+static void abandoning_many(size_t pins, size_t unpinned, size_t pages) {
+    warm first = {0}, second = {0};
+    warm_slot slots[MANY_PINS], other;
+    OK(open_with(&first, 1, 4, 4 * FAKE_FRAMES, devices, FAKE_DEVICES));
+    OK(warm_attach(&first, &second));
+    OK(warm_pin(&first, page_at(0), &other));
+    for (size_t at = 0; at < pins; at++)
+        OK(warm_pin_zeroed(&second, page_at(at % pages), &slots[at]));
+    for (size_t at = 0; at < unpinned; at++) OK(warm_unpin(&second, slots[at]));
+    for (size_t at = 0; at < unpinned; at++)
+        OK(warm_pin_zeroed(&second, page_at(at % pages), &slots[at]));
+    MUST(pins_in_nodes(&first) == 1 + pins);
+    OK(warm_abandon(&second));
+    MUST(pins_in_nodes(&first) == 1 + (pins > KNOWN_PINS ? pins - KNOWN_PINS : 0));
+    OK(warm_unpin(&first, other));
+    OK(warm_abandon(&first));
+    nothing_left();
+}
+
+static void test_abandoning_many(void) {
+    for (size_t pins = 0; pins <= KNOWN_PINS + 8; pins += 8) {
+        for (size_t unpinned = 0; unpinned <= pins; unpinned += 7) {
+            abandoning_many(pins, unpinned, 7);
+            abandoning_many(pins, unpinned, 4 * FAKE_FRAMES);
+        }
+    }
+}
+
+/* What is unpinned as it should be leaves no place behind, in whichever order. */
+static void test_known_pins(void) {
+    static const size_t steps[] = {1, 5, 7, MANY_PINS - 1};
+    warm handle = {0};
+    warm_slot slots[MANY_PINS];
+    OK(open_with(&handle, 1, 4, 4 * FAKE_FRAMES, devices, FAKE_DEVICES));
+    const opened *its = handle.at;
+    for (int round = 0; round < 4; round++) {
+        for (size_t at = 0; at < MANY_PINS; at++)
+            OK(warm_pin_zeroed(&handle, page_at(at % 100), &slots[at]));
+        MUST(its->pins == MANY_PINS && its->known_count == KNOWN_PINS);
+        for (size_t at = 0; at < MANY_PINS; at++)
+            OK(warm_unpin(&handle, slots[at * steps[round] % MANY_PINS]));
+        MUST(its->pins == 0 && its->known_count == 0);
+    }
+    OK(warm_abandon(&handle));
+    nothing_left();
 }
 
 /* So of each of its holds. The next handle has these. */
@@ -302,6 +367,8 @@ int main(void) {
     test_abandoning();
     test_abandoning_all_holds();
     test_ended_thread();
+    test_abandoning_many();
+    test_known_pins();
     test_attaching();
     puts("handles_test: as expected");
     return 0;

@@ -300,6 +300,7 @@ int warm_abandon(warm *handle) {
     if (its == NULL) return WARM_OK;
     if (is_attached_to(its)) return WARM_ATTACHED;
     let_go_of_holds(its);
+    let_go_of_pins(its);
     end_handle(handle);
     return WARM_OK;
 }

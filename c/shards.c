@@ -21,8 +21,9 @@ static inline unsigned hold_for(const opened *its, uint64_t word) {
     return (unsigned)__builtin_ctz(~its->used);
 }
 
-/* Holds the record's page, unless another one has the record now. A hold that is given up here
- * wakes nobody who wants a frame: the page is pinned in the shard next, if it still has its own. */
+/* Holds the record's page, unless another one has the record now. A hold that is given up here wakes
+ * nobody who wants a frame: the page is pinned in the shard next, where it is still in its frame. It
+ * is not where another one was loaded, whose unpin wakes them. */
 static inline bool hold(
     opened *its, unsigned at, record *its_record, uint32_t state, uint64_t word) {
     HOLDS_PAUSE();
@@ -333,11 +334,13 @@ __attribute__((noinline)) static int pin_listed(opened *its, shard *in, load *it
     return status == READ_AGAIN ? look_again(its, &it->left) : status;
 }
 
-/* The same, without the pin: the node has it for a moment, and has counted a miss. */
+/* The same, without the pin: the node has it for a moment, and has counted a miss. The page may have
+ * a frame that was not there for who wants one (see hold). */
 static int load_read(opened *its, shard *in, load *it) {
     int status = pin_listed(its, in, it);
     if (status != WARM_OK) return status;
     in->table.loads++;
+    wake_wanting(in);
     return node_unpin(&in->node, it->slot);
 }
 
@@ -364,12 +367,25 @@ static int pin_in_node_of(opened *its, shard *in, load *it) {
     return status;
 }
 
-/* What comes of a pin in a node, in the handle and in the slot. */
+/* ---- pins ---- */
+
+/* What comes of a pin in a node, in the slot and in the handle. */
 static void give_slot(opened *its, const shard *in, const load *it, warm_slot *slot) {
     uint64_t number = (uint64_t)(in - its->shards);
     its->pins++;
     slot->generation = it->slot.generation;
     put_place(slot, it->slot.index | number << SLOT_SHARD | (uint64_t)it->is_hit << SLOT_HIT);
+    if (its->known_count < KNOWN_PINS) its->known[its->known_count++] = *slot;
+}
+
+/* The latest pins are looked at first: they are often taken back first. */
+static void forget_pin(opened *its, warm_slot slot) {
+    unsigned at = its->known_count;
+    its->pins--;
+    while (at > 0 && (its->known[at - 1].generation != slot.generation ||
+                         place_of_slot(&its->known[at - 1]) != place_of_slot(&slot)))
+        at--;
+    if (at > 0) its->known[at - 1] = its->known[--its->known_count];
 }
 
 static int pin_in_shard(opened *its, load *it, warm_slot *slot) {
@@ -423,7 +439,7 @@ __attribute__((noinline)) static int unpin_in_shard(opened *its, warm_slot slot)
     if (status == WARM_OK) in->table.pinned--;
     wake_wanting(in);
     leave(in, is_locked);
-    if (status == WARM_OK) its->pins--;
+    if (status == WARM_OK) forget_pin(its, slot);
     return status;
 }
 
@@ -431,6 +447,11 @@ __attribute__((aligned(LINE))) int warm_unpin(warm *handle, warm_slot slot) {
     opened *its = handle->at;
     if (its == NULL) return WARM_CLOSED;
     return unpin_by_hold(its, slot) ? WARM_OK : unpin_in_shard(its, slot);
+}
+
+void let_go_of_pins(opened *its) {
+    for (unsigned left = its->known_count; left > 0; left--)
+        unpin_in_shard(its, its->known[left - 1]);
 }
 
 /* A shard that is entered for a call on a slot, whose page the node has a pin of meanwhile, where

@@ -87,6 +87,9 @@ typedef struct own_hold {
     uint64_t generation, place, pins;
 } own_hold;
 
+/* How many of its pins in nodes a handle knows: these are taken back where it is abandoned. */
+enum { KNOWN_PINS = 64 };
+
 /* What an open handle points to. */
 typedef struct opened {
     _Alignas(LINE) replica *of;
@@ -98,6 +101,8 @@ typedef struct opened {
     uint8_t *copy;   /* of one that is written */
     uint32_t used; /* bit i: hold i names a record */
     own_hold own[HOLDS];
+    unsigned known_count;
+    warm_slot known[KNOWN_PINS]; /* of the pins in nodes those that found a place here */
     size_t turn; /* the shard with which the next warm_step begins */
     uint64_t longest_wait; /* of a call, in milliseconds (waits.h); UINT64_MAX: no limit */
     bool is_first; /* whether it opened the replica */
@@ -175,6 +180,9 @@ static inline int noted(opened *its, shard *in, int status) {
     }
     return status;
 }
+
+/* Takes back what a handle, which is called no more, has pinned in nodes and knows. */
+void let_go_of_pins(opened *its);
 
 /* Whether a device may be one of a replica of this page size: WARM_OK, WARM_BAD_DEVICE or
  * WARM_APPENDS. */

@@ -237,6 +237,25 @@ static void test_counted_misses(void) {
     }
 }
 
+/* What a call counted stays until another one has a failure: a miss that writes a page first, and
+ * succeeds, has none. */
+static void test_counts_behind_a_miss(void) {
+    own its = {.write_error = EIO};
+    const warm_device device = own_device_of(&its, &all_calls, 0);
+    warm handle = {0}, other = {0};
+    OK(open_with(&handle, 1, 1, 2, &device, 1));
+    OK(warm_attach(&handle, &other));
+    write_each(&handle, 0, 2);
+    MUST(warm_prefetch(&handle, page_at(5)) == WARM_EVICT_FAULT && failures(&handle) == 2);
+    its.write_error = 0;
+    OK(warm_prefetch(&handle, page_at(5)));
+    MUST(its.writes == 3 && failures(&handle) == 2);
+    must_have_failed(&handle, 0, 0, WARM_FAILED_WRITE, EIO);
+    OK(warm_close(&other));
+    OK(warm_abandon(&handle));
+    nothing_left();
+}
+
 static void test_skipping_portions(void) {
     for (size_t shards = 1; shards <= 4; shards *= 4) {
         skip_portions(shards, false);
@@ -374,6 +393,7 @@ int main(void) {
     test_skips_and_failures();
     test_counted_failures();
     test_counted_misses();
+    test_counts_behind_a_miss();
     test_full_pins();
     test_skipped_victims();
     test_latches();

@@ -276,6 +276,25 @@ static void test_no_changes(void) {
     close_all();
 }
 
+/* Who abandons a handle with a pin of a page that is being written takes back that pin alone: the
+ * page keeps its frame until it is written. */
+static void test_abandoning(void) {
+    open_dirty(1);
+    pin(&callers[1].handle, 0);
+    stop_writes_of(bit(0));
+    begin(0, WRITES_ONE, page_at(0));
+    until_written(bit(0));
+    OK(warm_abandon(&callers[1].handle));
+    begin(2, PINS, page_at(5));
+    until_waiting(1);
+    not_over(2);
+    MUST(is_in(&first, 0) && put == 0);
+    end_writes(bit(0));
+    MUST(end(0) == WARM_OK && end(2) == WARM_OK && !is_in(&first, 0) && put == 1);
+    unpin(2);
+    close_all();
+}
+
 /* A page that is changed whenever it was written is written by the node in the end, with the shard
  * locked, and leaves. */
 static void change_again(int fd, off_t at) {
@@ -725,6 +744,7 @@ int main(void) {
     test_two_misses();
     test_changes();
     test_no_changes();
+    test_abandoning();
     test_same_number();
     test_tries();
     test_copy_after_asking();

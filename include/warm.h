@@ -218,7 +218,8 @@ int warm_attach(warm *handle, warm *attached);
 int warm_close(warm *handle);
 
 /* Closes a handle by force. If it opened the replica, dirty pages are lost, and nothing says
-   whether a flush failed. What an attached one has pinned may stay in its frame.
+   whether a flush failed. What an attached one has pinned is unpinned; if it ever had more than 64
+   pins at once, some may stay.
    Refused: WARM_ATTACHED. */
 int warm_abandon(warm *handle);
 

@@ -3,7 +3,7 @@
  *
  * Each thread has a handle of its own, and makes calls that are drawn: pins, reads, writes through
  * the library and in place, references, checkpoints, horizons, gossip with a second replica of one
- * shard, detaching and attaching again, and calls that must be refused. Half of the threads do not
+ * shard, detaching with pins or without, attaching again, and calls that must be refused. Half of the threads do not
  * wait for others, or for a millisecond or two: a call that is refused for that changes nothing, and
  * is made again where it must succeed. The model knows what is in
  * each page, how many pins it has, and the two latest references to it of each thread. What a page
@@ -530,6 +530,20 @@ static void attach(struct player *player) {
     if (player->has_limit) OK(warm_limit_waits(&player->handle, draw(player) % 3));
 }
 
+/* The handle is closed, or abandoned with what it has pinned. */
+static void detach(struct player *player) {
+    if (draw(player) % 2 == 0) {
+        release(player, 0);
+        OK(warm_close(&player->handle));
+        return;
+    }
+    while (player->held_count > 0) {
+        struct held held = player->held[--player->held_count];
+        MUST(atomic_fetch_sub(&model_of(held.page)->pins, 1) > 0);
+    }
+    OK(warm_abandon(&player->handle));
+}
+
 static void play_once(struct player *player) {
     uint64_t what = draw(player) % 128;
     if (what < 48) read_page(player);
@@ -544,8 +558,7 @@ static void play_once(struct player *player) {
     else if (what < 127) forget_old(player);
     else if (draw(player) % 16 != 0) replace(player);
     else {
-        release(player, 0);
-        OK(warm_close(&player->handle));
+        detach(player);
         attach(player);
     }
     player->calls++;

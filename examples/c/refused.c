@@ -179,6 +179,34 @@ static void own_device(void) {
     MUST(blocks == 0 && mappings == 0);
 }
 
+static uint64_t resident_pages(warm *handle) {
+    warm_counters counters;
+    UNREFUSED(warm_counts(handle, &counters));
+    return counters.resident;
+}
+
+/* A step of a warm-up loads the hottest page of a shard, or the pool is as it was: by a handle that is alone, and beside another one. */
+static void stepped(bool is_shared) {
+    enum { PAGES = 16 };
+    const warm_device device = {.pages = PAGES, .fd = temporary()};
+    warm_reference seen[PAGES];
+    warm handle = {0}, other = {0};
+    warm_page page = {.no = 77};
+    bool found = false;
+    for (uint64_t no = 0; no < PAGES; no++) seen[no] = (warm_reference){.time = no + 1, .no = no, .replica = 1};
+    OK(open_with(&handle, 1, shards, FRAMES * shards, PAGE_SIZE, &device, 1));
+    OK(warm_absorb(&handle, seen, PAGES));
+    if (is_shared) OK(warm_attach(&handle, &other));
+    EACH_REFUSED(warm_step(&handle, &found, &page), !found && page.no == 77 && resident_pages(&handle) == 0);
+    MUST(found && page.dev == 0 && page.no < PAGES && page.no + shards >= PAGES && resident_pages(&handle) == 1);
+    UNREFUSED(warm_resident(&handle, page, &found));
+    MUST(found && known(&handle) == PAGES);
+    UNREFUSED(warm_close(&other));
+    UNREFUSED(warm_close(&handle));
+    MUST(blocks == 0 && mappings == 0);
+    close(device.fd);
+}
+
 /* Histories: absorbed, sent, received, listed, saved and loaded. */
 static void histories(warm *from, warm *to) {
     static warm_reference seen[SEEN];
@@ -308,6 +336,8 @@ int main(int count, char **words) {
     warm from = {0}, to = {0};
     mapped();
     own_device();
+    stepped(false);
+    stepped(true);
     opened(&from, 1, fds[0]);
     opened(&to, 2, fds[1]);
     attached(&from);

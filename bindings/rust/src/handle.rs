@@ -307,7 +307,8 @@ impl Handle {
         // SAFETY: the handle is open.
         result(unsafe { ffi::warm_pin_bytes(raw, page, &mut slot, &mut bytes) })?;
         let pinned = Pinned { handle: self, slot };
-        let latch = self.latch_of(slot).read(self.replica.latch_wait).ok_or(Error::Latched)?;
+        let latch = self.latch_of(slot).read(slot.generation, self.replica.latch_wait);
+        let latch = latch.ok_or(Error::Latched)?;
         Ok(Pin { bytes, _latch: latch, pinned })
     }
 
@@ -340,7 +341,7 @@ impl Handle {
             // SAFETY: the handle is open.
             result(unsafe { ffi::warm_pin_zeroed(raw, page, &mut slot) })?;
             let pinned = Pinned { handle: self, slot };
-            (pinned, self.latch_of(slot).seize())
+            (pinned, self.latch_of(slot).seize(slot.generation))
         } else {
             self.pin_latched(raw, page)?
         };
@@ -379,8 +380,8 @@ impl Handle {
         // SAFETY: the handle is open.
         result(unsafe { ffi::warm_pin(raw, page, &mut slot) })?;
         let pinned = Pinned { handle: self, slot };
-        let latch = self.latch_of(slot).write(self.replica.latch_wait).ok_or(Error::Latched)?;
-        Ok((pinned, latch))
+        let latch = self.latch_of(slot).write(slot.generation, self.replica.latch_wait);
+        Ok((pinned, latch.ok_or(Error::Latched)?))
     }
 
     /// The latch of a slot that the library wrote.

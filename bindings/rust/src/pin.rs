@@ -1,27 +1,45 @@
 //! Pins of pages, and the latches that keep readers and writers of their bytes apart.
 use std::fmt;
 use std::ops::{Deref, DerefMut};
-use std::sync::atomic::{AtomicU32, Ordering};
+use std::sync::atomic::{AtomicU64, Ordering};
 use std::thread;
 use std::time::{Duration, Instant};
 
 use crate::error::result;
 use crate::{ffi, Handle};
 
-/// A latch of a frame: how many read its bytes, or `WRITER`. The library keeps the bytes of a
-/// pinned page where they are, and changes them in `warm_write` and `warm_pin_zeroed` alone, which
-/// the crate calls for a page with a `WriteLatch`, or where nobody can have a pin.
+/// A latch of a frame: how many read the bytes of its page, or `WRITER`, and above that which page,
+/// by its generation. The library keeps the bytes of a pinned page where they are, and changes them
+/// in `warm_write` and `warm_pin_zeroed` alone, which the crate calls for a page with a
+/// `WriteLatch`, or where nobody can have a pin. Who has the latch has a pin, so that no other page
+/// gets the frame. So the latch of another page is of no account: its pin was leaked, and the
+/// handle of that has ended.
 #[derive(Default)]
-pub(crate) struct Latch(AtomicU32);
+pub(crate) struct Latch(AtomicU64);
 
-const WRITER: u32 = u32::MAX;
-const MOST_READERS: u32 = WRITER - 1;
+const COUNT_BITS: u32 = 32;
+const WRITER: u64 = (1 << COUNT_BITS) - 1;
+const MOST_READERS: u64 = WRITER - 1;
 
 /// The longest time between two looks at a latch.
 const NAP: Duration = Duration::from_micros(50);
 
+fn latch_at(generation: u64, count: u64) -> u64 {
+    generation << COUNT_BITS | count
+}
+
+/// The count of a latch, for the page of this generation.
+fn count_in(latch: u64, generation: u64) -> u64 {
+    let count = latch & WRITER;
+    if latch == latch_at(generation, count) {
+        count
+    } else {
+        0
+    }
+}
+
 impl Latch {
-    pub fn read(&self, patience: Duration) -> Option<ReadLatch<'_>> {
+    pub fn read(&self, generation: u64, patience: Duration) -> Option<ReadLatch<'_>> {
         let add = |readers| {
             if readers < MOST_READERS {
                 Some(readers + 1)
@@ -29,23 +47,34 @@ impl Latch {
                 None
             }
         };
-        let taken = within(patience, || {
-            self.0.fetch_update(Ordering::Acquire, Ordering::Relaxed, add).is_ok()
-        });
-        taken.then(|| ReadLatch(self))
+        self.takes(generation, patience, add).then(|| ReadLatch(self))
     }
 
-    pub fn write(&self, patience: Duration) -> Option<WriteLatch<'_>> {
-        let taken = within(patience, || {
-            self.0.compare_exchange(0, WRITER, Ordering::Acquire, Ordering::Relaxed).is_ok()
-        });
-        taken.then(|| WriteLatch(self))
+    pub fn write(&self, generation: u64, patience: Duration) -> Option<WriteLatch<'_>> {
+        let claim = |count| if count == 0 { Some(WRITER) } else { None };
+        self.takes(generation, patience, claim).then(|| WriteLatch(self))
     }
 
     /// The latch where nobody can use one: who has it has leaked it.
-    pub fn seize(&self) -> WriteLatch<'_> {
-        self.0.swap(WRITER, Ordering::Acquire);
+    pub fn seize(&self, generation: u64) -> WriteLatch<'_> {
+        self.0.swap(latch_at(generation, WRITER), Ordering::Acquire);
         WriteLatch(self)
+    }
+
+    /// Whether the latch of this page has the next count before the time has passed.
+    fn takes(
+        &self,
+        generation: u64,
+        patience: Duration,
+        next: impl Fn(u64) -> Option<u64>,
+    ) -> bool {
+        let changed = |latch| {
+            let count = next(count_in(latch, generation))?;
+            Some(latch_at(generation, count))
+        };
+        within(patience, || {
+            self.0.fetch_update(Ordering::Acquire, Ordering::Relaxed, changed).is_ok()
+        })
     }
 }
 

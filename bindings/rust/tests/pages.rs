@@ -231,6 +231,29 @@ fn a_leaked_pin_keeps_its_page_and_harms_nothing() {
     assert_eq!(memory.first(3), Some(3));
 }
 
+/// Be it by a hold, as of a page that was pinned twice before, or not.
+#[test]
+fn a_leaked_pin_ends_with_its_handle() {
+    let handle = over(Memory::default().device());
+    let other = handle.attach().unwrap();
+    for no in 0..12 {
+        if no % 3 == 0 {
+            (0..2).for_each(|_| drop(other.pin(page(no)).unwrap()));
+        }
+        match no % 2 {
+            0 => mem::forget(other.pin(page(no)).unwrap()),
+            _ => mem::forget(other.pin_mut(page(no)).unwrap()),
+        }
+    }
+    drop(other);
+    handle.forget_pages(0, 0).unwrap();
+    for first in [20, 40] {
+        let all: Vec<_> = (first..first + 16).map(|no| handle.pin_mut(page(no)).unwrap()).collect();
+        assert_eq!(handle.pin(page(19)).unwrap_err(), Error::AllPinned);
+        drop(all);
+    }
+}
+
 #[test]
 fn a_leaked_pin_keeps_no_zeros_away() {
     let memory = Memory::default();
