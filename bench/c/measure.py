@@ -1,10 +1,10 @@
 #!/usr/bin/env python3
-"""Measures a hit (pin, read eight bytes, unpin) from C against the same from Rattle.
+"""Measures a hit (pin, read eight bytes, unpin) from C against the same from Rattle, and the memory of histories from C.
 
 usage: measure.py LIBRARY [HITS]      LIBRARY is the folder that scripts/c-library made; HITS of a run, 5,000,000 by default
 
 It needs the proved program `bench_threads` and a C compiler (cc, or what CC names). Each of 15 rounds is in a drawn order. All programs must
-print the same checksum. It prints the lines of bench/runs.py.
+print the same checksum. The runs of a history's memory have different numbers of pages. It prints the lines of bench/runs.py.
 """
 
 import os
@@ -21,12 +21,14 @@ from runs import Runs, program  # noqa: E402
 ROUNDS = 15
 HITS = 5_000_000
 POOLS = [1_024, 65_536]
+# the sizes of histories: a map's nodes are full to another part at each
+HISTORIES = [round(100_000 * 1.1**at) for at in range(25)]
 
 
-def built(library: Path, folder: Path) -> Path:
-    program = folder / "hits"
+def built(name: str, library: Path, folder: Path) -> Path:
+    program = folder / name
     subprocess.run(
-        [os.environ.get("CC", "cc"), "-std=c11", "-O2", f"-I{library}/include", HERE / "hits.c", f"-L{library}/lib", "-lwarm_c", "-o", program],
+        [os.environ.get("CC", "cc"), "-std=c11", "-O2", f"-I{library}/include", HERE / f"{name}.c", f"-L{library}/lib", "-lwarm_c", "-o", program],
         check=True,
     )
     return program
@@ -50,14 +52,26 @@ def measure(commands: dict[str, list[str | Path]], frames: int, hits: int) -> No
     took.print()
 
 
+def measure_memory(program: Path) -> None:
+    took = Runs()
+    for order in ("ascending", "scattered"):
+        for pages in HISTORIES:
+            said = subprocess.run([program, str(pages), order], stdout=subprocess.PIPE, check=True, text=True).stdout
+            took.add(f"memory of a history a page, {order}", "ours", "bytes", float(said))
+    took.print()
+
+
 def main() -> None:
     if len(sys.argv) not in (2, 3):
         sys.exit(__doc__)
     hits = int(sys.argv[2]) if len(sys.argv) > 2 else HITS
-    with tempfile.TemporaryDirectory() as folder:
-        commands = {"ours": [built(Path(sys.argv[1]).resolve(), Path(folder))], "Rattle": [program("bench_threads"), "hits"]}
+    library = Path(sys.argv[1]).resolve()
+    with tempfile.TemporaryDirectory() as name:
+        folder = Path(name)
+        commands = {"ours": [built("hits", library, folder)], "Rattle": [program("bench_threads"), "hits"]}
         for frames in POOLS:
             measure(commands, frames, hits)
+        measure_memory(built("memory", library, folder))
 
 
 if __name__ == "__main__":
