@@ -27,8 +27,8 @@ use Rattle.warm_gossip.specs.declared.fault.NodeFault.{NodeFault}
 use Rattle.warm_gossip.specs.declared.fault.NodeFault.TheVariants.{Memory, Pool}
 use Rattle.warm_gossip.specs.Clauses.{DevicesAfter, Goes, NodeWriteBackFails, OfPool, SameView}
 use Rattle.warm_peer.specs.Since.{HasMoreSince, sent_since}
+use Rattle.warm_gossip.specs.Engine.{KeepsKnown}
 use Rattle.warm_gossip.specs.State.{NodeState}
-use Rattle.warm_shards.specs.Clauses.{KeepsKnown}
 use Rattle.warm_shards.specs.Shards.{no_shard, shard_of}
 use Rattle.warm_concurrent.specs.declared.call.ShardCall.{ShardCall}
 use Rattle.warm_concurrent.specs.declared.call.ShardCall.TheVariants.{Absorb, Raise, Pin, Unpin}
