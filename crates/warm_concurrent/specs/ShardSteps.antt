@@ -28,8 +28,8 @@ use Rattle.warm_gossip.specs.Clauses.{DevicesAfter, Goes, JoinsEntries, NodeWrit
 use Rattle.warm_gossip.specs.Clauses.{SameView}
 use Rattle.warm_peer.specs.Answers.{requested_messages}
 use Rattle.warm_peer.specs.Since.{HasMoreSince, sent_since}
+use Rattle.warm_gossip.specs.Engine.{KeepsKnown}
 use Rattle.warm_gossip.specs.State.{NodeState}
-use Rattle.warm_shards.specs.Clauses.{KeepsKnown}
 use Rattle.warm_shards.specs.Shards.{no_shard, shard_of}
 use Rattle.warm_concurrent.specs.declared.call.ShardCall.{ShardCall}
 use Rattle.warm_concurrent.specs.declared.call.ShardCall.TheVariants.{Absorb, Raise, Pin, Unpin}
