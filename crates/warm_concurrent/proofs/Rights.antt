@@ -70,7 +70,9 @@ record Stays (s t : Share) : Type 0 where
   large : AsLarge t s
 
 stays_same : (s t : Share) → t ≡ s → Stays s t
-stays_same s t is = subst (λ (u : Share). Stays s u) (sym is) (record { some = λ some. some; large = AsLarge-self s })
+stays_same s t is =
+    let self : Stays s s = record { some = λ some. some; large = AsLarge-self s } in
+    subst (λ (u : Share). Stays s u) (sym is) self
 
 -- beside another share
 stays_beside : (s t u : Share) → Stays t u → Stays (both s t) (both s u)
