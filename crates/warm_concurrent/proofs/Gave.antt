@@ -69,7 +69,7 @@ gives_called old new c r got =
 abbrev pub EachGives : (ℕ → ReferenceSet) → ℕ → List ShardPass → List ShardPass → Type 0
 EachGives T k old new = First (λ i. Gives (T i)) k old new
 
-as_given : (So : ℕ → ShardPass → ShardPass → Type 0) (T : ℕ → ReferenceSet) (k : ℕ)
+pub as_given : (So : ℕ → ShardPass → ShardPass → Type 0) (T : ℕ → ReferenceSet) (k : ℕ)
     (old new : List ShardPass) → ((i : ℕ) (p q : ShardPass) → So i p q → Gives (T i) p q)
     → First So k old new → EachGives T k old new
 as_given So T k old new each so = record {
@@ -78,7 +78,7 @@ as_given So T k old new each so = record {
   others = so.others;
 }
 
-given_then : (T U : ℕ → ReferenceSet) (k : ℕ) (old mid new : List ShardPass)
+pub given_then : (T U : ℕ → ReferenceSet) (k : ℕ) (old mid new : List ShardPass)
     → EachGives T k old mid → EachGives U k mid new → EachGives (λ i. T i ∪ U i) k old new
 given_then T U k old mid new one other = record {
   count = other.count ∙ one.count;
@@ -86,7 +86,7 @@ given_then T U k old mid new one other = record {
   others = λ i le. other.others i le ∙ one.others i le;
 }
 
-given_as : (T U : ℕ → ReferenceSet) (k : ℕ) (old new : List ShardPass) → ((i : ℕ) → T i ≡ U i)
+pub given_as : (T U : ℕ → ReferenceSet) (k : ℕ) (old new : List ShardPass) → ((i : ℕ) → T i ≡ U i)
     → EachGives T k old new → EachGives U k old new
 given_as T U k old new same given = record {
   count = given.count;
@@ -94,7 +94,7 @@ given_as T U k old new same given = record {
   others = given.others;
 }
 
-given_none : (k : ℕ) (old new : List ShardPass) → new ≡ old
+pub given_none : (k : ℕ) (old new : List ShardPass) → new ≡ old
     → EachGives (λ i. set_of_list []) k old new
 given_none k old new same = record {
   count = ap length same;
@@ -168,7 +168,7 @@ raised_each time k old new so =
 -- ---- messages
 
 -- an answer gives nothing
-answer_gives : (count request : ℕ) (messages : List Message) (i : ℕ) (old new : ShardPass)
+pub answer_gives : (count request : ℕ) (messages : List Message) (i : ℕ) (old new : ShardPass)
     → AnswersPart count request messages i old new → Gives (set_of_list []) old new
 answer_gives count request messages i old new (part, own, none, some) = cases part refl
   where
@@ -181,7 +181,7 @@ answered_each : (request : ℕ) (messages : List Message) (old new : List ShardP
 answered_each request messages old new (parts, so, is) =
     as_given (λ i. AnswersPart (length old) request (slice_index_or parts i []) i) (λ i. set_of_list []) (length old) old new (λ i. answer_gives (length old) request (slice_index_or parts i []) i) so.1
 
-gathered_each : (all : Offered) (old new : List ShardPass) → GathersAll all old new
+pub gathered_each : (all : Offered) (old new : List ShardPass) → GathersAll all old new
     → EachGives (λ i. set_of_list []) (length old) old new
 gathered_each all old new (offers, so, is) =
     as_given (λ i. Offers (offer_at offers i) i) (λ i. set_of_list []) (length old) old new (λ i p q r. gives_called p q Offer (offer_reply (offer_at offers i)) r) so.1
@@ -207,7 +207,7 @@ only_raised time old mid new raised none =
     given_as (λ i. only_horizon time ∪ set_of_list []) (λ i. only_horizon time) k old new (λ i. union_none (only_horizon time))
     (given_then (λ i. only_horizon time) (λ i. set_of_list []) k old mid new (raised_each time k old mid raised) rest)
 
-none_twice : (old mid new : List ShardPass) → EachGives (λ i. set_of_list []) (length old) old mid
+pub none_twice : (old mid new : List ShardPass) → EachGives (λ i. set_of_list []) (length old) old mid
     → EachGives (λ i. set_of_list []) (length mid) mid new
     → EachGives (λ i. set_of_list []) (length old) old new
 none_twice old mid new one other =

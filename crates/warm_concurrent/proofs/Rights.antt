@@ -1,12 +1,11 @@
 -- The right to close: what calls leave of it, and what all threads have together.
 use Rattle.std.specs.Prelude.{slice_index_or}
-use Rattle.std.proofs.Common.{◌≡◌, ℕ, zero, suc, ◌*◌, ◌<◌, List, [], ◌∷◌, ◌++◌, length, map, Result, Ok, Err, refl, sym, ap, subst, ◌∙◌, arith}
+use Rattle.std.proofs.Common.{◌≡◌, ℕ, zero, suc, ◌*◌, ◌<◌, List, [], ◌∷◌, ◌++◌, length, Result, Ok, Err, refl, sym, ap, subst, ◌∙◌, arith}
 use Rattle.std.proofs.Math.Nat.{mul-pos}
 use Rattle.warm_turn.specs.declared.fault.Busy.{Busy}
 use Rattle.warm_turn.specs.declared.table.Share.{Share}
-use Rattle.warm_turn.specs.CallHistories.{marked}
-use Rattle.warm_turn.specs.Shares.{AsLarge, IsWhole, both, half, no_share, whole_share}
-use Rattle.warm_turn.proofs.Shares.{AsLarge-both, AsLarge-self, AsLarge-sym, AsLarge-trans, IsWhole-first, IsWhole-large, both-half, both_assoc}
+use Rattle.warm_turn.specs.Shares.{AsLarge, both, half, no_share, whole_share}
+use Rattle.warm_turn.proofs.Shares.{AsLarge-both, AsLarge-self, AsLarge-trans, both_assoc}
 use Rattle.warm_gossip.specs.State.{NodeState}
 use Rattle.warm_concurrent.specs.declared.call.ShardCall.{ShardCall}
 use Rattle.warm_concurrent.specs.declared.call.ShardReply.{ShardReply}
@@ -16,7 +15,7 @@ use Rattle.warm_concurrent.specs.declared.fault.SharedFault.TheVariants.{Node, T
 use Rattle.warm_concurrent.specs.Attached.{Known, ShardPass, ShardTurn, known_of, shard_pass, shard_turn}
 use Rattle.warm_concurrent.specs.Clauses.{CallFails, Got}
 use Rattle.warm_concurrent.specs.Laws.{OverCalls}
-use Rattle.warm_concurrent.specs.Opening.{AreClosed, AreFirst, ClosesShard, AreHalved, AreSplit, PassesAreJoined}
+use Rattle.warm_concurrent.specs.Opening.{AreClosed, AreFirst, ClosesShard}
 use Rattle.warm_concurrent.specs.Rights.{AreGivenBack, Come, HasWholeRight, KeepsRight, Moves, NodesComeBack, Threads, ThreadsMove}
 use Rattle.warm_concurrent.proofs.LawsHold.{one_so, over_calls}
 
@@ -71,7 +70,9 @@ record Stays (s t : Share) : Type 0 where
   large : AsLarge t s
 
 stays_same : (s t : Share) → t ≡ s → Stays s t
-stays_same s t is = subst (λ (u : Share). Stays s u) (sym is) (record { some = λ some. some; large = AsLarge-self s })
+stays_same s t is =
+    let self : Stays s s = record { some = λ some. some; large = AsLarge-self s } in
+    subst (λ (u : Share). Stays s u) (sym is) self
 
 -- beside another share
 stays_beside : (s t u : Share) → Stays t u → Stays (both s t) (both s u)

@@ -14,7 +14,7 @@ use Rattle.warm_gossip.specs.State.{NodeState}
 use Rattle.warm_shards.specs.Shards.{IsShardCount}
 use Rattle.warm_concurrent.specs.declared.call.ShardCall.{ShardCall}
 use Rattle.warm_concurrent.specs.declared.call.ShardReply.{ShardReply}
-use Rattle.warm_concurrent.specs.Attached.{Known, ShardPass, ShardTurn, known_of, shard_pass}
+use Rattle.warm_concurrent.specs.Attached.{Known, ShardPass, ShardTurn, known_of}
 use Rattle.warm_concurrent.specs.Given.{AreLogs, HasMade, Log, SameGiven, TwoThreadsAreHeld, gave, gave_call, gave_together, log_at}
 use Rattle.warm_concurrent.specs.Laws.{OverCalls}
 use Rattle.warm_concurrent.specs.Opening.{AreClosed, AreFirst, AreHalved, PassesAreJoined, AreSplit}
@@ -138,14 +138,12 @@ two_come : (k : ℕ) (first here there mine yours all : List ShardPass) (one two
     → AreHalved first here → AreSplit first there → AbsorbsFirst one k here mine
     → AbsorbsFirst two k there yours → PassesAreJoined mine yours all
     → (between : List Threads) × Come (first ∷ []) between (all ∷ [])
-two_come k first here there mine yours all one two halved split absorbed also joined = (
-  (here ∷ there ∷ []) ∷ (mine ∷ there ∷ []) ∷ (mine ∷ yours ∷ []) ∷ (all ∷ []) ∷ [],
-  moves_there [] (first ∷ []) (here ∷ there ∷ []) [] (halved, split),
-  moves_there [] (here ∷ []) (mine ∷ []) (there ∷ []) (calls_keep.absorbed here mine k one absorbed),
-  moves_there (mine ∷ []) (there ∷ []) (yours ∷ []) [] (calls_keep.absorbed there yours k two also),
-  moves_there [] (mine ∷ yours ∷ []) (all ∷ []) [] joined,
-  refl,
-)
+two_come k first here there mine yours all one two halved split absorbed also joined =
+    let apart = moves_there [] (first ∷ []) (here ∷ there ∷ []) [] (halved, split) in
+    let ours = moves_there [] (here ∷ []) (mine ∷ []) (there ∷ []) (calls_keep.absorbed here mine k one absorbed) in
+    let theirs = moves_there (mine ∷ []) (there ∷ []) (yours ∷ []) [] (calls_keep.absorbed there yours k two also) in
+    let again = moves_there [] (mine ∷ yours ∷ []) (all ∷ []) [] joined in
+    ((here ∷ there ∷ []) ∷ (mine ∷ there ∷ []) ∷ (mine ∷ yours ∷ []) ∷ (all ∷ []) ∷ [], (apart, (ours, (theirs, (again, refl)))))
 
 module _ (turns : List ShardTurn) (first here there mine yours all : List ShardPass)
     (opens : AreFirst turns first) (halved : AreHalved first here) (split : AreSplit first there)

@@ -1,5 +1,5 @@
 -- What shards were given, all together, and what a thread's calls gave them.
-use Rattle.std.specs.Prelude.{◌≡◌, ℕ, ◌<◌, List, [], ◌∷◌, ◌++◌, length, map, Some, Ok}
+use Rattle.std.specs.Prelude.{◌≡◌, ℕ, zero, suc, ◌<◌, List, [], ◌∷◌, ◌++◌, length, map, Some, Ok}
 use Rattle.std.specs.Prelude.{Result, slice_index_or}
 use mathlib.Core.Option.{some}
 use mathlib.Core.List.{IsPrefix}
@@ -28,14 +28,16 @@ use Rattle.warm_concurrent.specs.declared.call.ShardCall.TheVariants.{PinZeroed,
 use Rattle.warm_concurrent.specs.declared.call.ShardReply.{ShardReply}
 use Rattle.warm_concurrent.specs.declared.call.ShardReply.TheVariants.{Done, Kept, Page}
 use Rattle.warm_concurrent.specs.declared.fault.SharedFault.{SharedFault}
+use Rattle.warm_concurrent.specs.declared.gossip.NotReceived.{NotReceived}
+use Rattle.warm_concurrent.specs.declared.gossip.NotReceived.TheVariants.{Raising, Taking}
 use Rattle.warm_concurrent.specs.Attached.{Known, ShardPass, ShardTurn, known_of, shard_turn}
 use Rattle.warm_concurrent.specs.Clauses.{AnsweredByShard}
-use Rattle.warm_concurrent.specs.Gossip.{ShardsReceive}
+use Rattle.warm_concurrent.specs.Gossip.{ReceiveStops, ShardsReceive}
 use Rattle.warm_concurrent.specs.Laws.{all_of}
 use Rattle.warm_concurrent.specs.Opening.{AreClosed, AreFirst, AreHalved, PassesAreJoined, AreSplit}
 use Rattle.warm_concurrent.specs.Opening.{openings, shards_over}
 use Rattle.warm_concurrent.specs.ShardSteps.{ShardState, ShardStep}
-use Rattle.warm_concurrent.specs.Whole.{AbsorbFails, AbsorbsFirst, RaisesFirst}
+use Rattle.warm_concurrent.specs.Whole.{AbsorbFails, AbsorbsFirst, RaiseFails, RaisesFirst}
 
 -- Sets of references
 
@@ -122,20 +124,36 @@ pub record HasMade (old new : List ShardPass) (more : List Log) : Type 0 where
 abbrev pub HasGiven : ReferenceSet → List ShardPass → List ShardPass → Type 0
 HasGiven S old new = (more : List Log) × HasMade old new more × SameGiven (gave_together more) S
 
--- What a thread's call gave: the batch that it absorbed, or of one that stopped at a shard the parts
--- of those before; the horizon that it raised; the references and the horizon of the message that it
--- received; and what any other call of one shard gave that one.
+-- what the first k of these shards have of a set of which each gets its part: nothing, if k is 0
+abbrev pub given_to_first : ℕ → ℕ → ReferenceSet → ReferenceSet
+given_to_first count zero S = set_of_list []
+given_to_first count (suc k) S = of_first_shards count (suc k) S
+
+-- how many of these shards have their part of a message, where its receipt stopped so
+abbrev pub shards_given : ℕ → NotReceived → ℕ
+shards_given count (Raising at) = at.shard
+shards_given count (Taking at) = at.shard
+shards_given count why = count
+
+-- What a thread's call gave: the batch that it absorbed, the horizon that it raised, or the
+-- references and the horizon of the message that it received; of each of these that stopped at a
+-- shard, just the parts of the shards before; and what any other call of one shard gave that one.
 pub record CallsAreGiven (old new : List ShardPass) : Type 0 where
   pub absorbed : (batch : List Reference) → AbsorbsFirst batch (length old) old new
       → HasGiven (set_of_list batch) old new
-  pub stopped : (batch : List Reference) (k : ℕ) (why : SharedFault)
+  pub batch_stopped : (batch : List Reference) (k : ℕ) (why : SharedFault)
       → AbsorbFails batch k why old new
-      → HasGiven (of_first_shards (length old) k (set_of_list batch)) old new
+      → HasGiven (given_to_first (length old) k (set_of_list batch)) old new
   pub raised : (time : ℕ) → RaisesFirst time (length old) old new
       → HasGiven (only_horizon time) old new
+  pub raise_stopped : (time k : ℕ) (why : SharedFault) → RaiseFails time k why old new
+      → HasGiven (given_to_first (length old) k (only_horizon time)) old new
   pub received : (message : Message) (answers : List Message)
       → ShardsReceive message answers old new
       → HasGiven (refs_in message) old new
+  pub receipt_stopped : (message : Message) (why : NotReceived) → ReceiveStops message why old new
+      → HasGiven (given_to_first (length old) (shards_given (length old) why) (refs_in message))
+      old new
   pub called : (i : ℕ) (call : ShardCall) (reply : ShardReply) → i < length old
       → AnsweredByShard old i call reply new → HasGiven (gave_call call reply) old new
 

@@ -30,11 +30,11 @@ pub fn shards_are_of_given()
     ensures closed { SharedIsOfGiven }
 {}
 
-/// What a thread's call gives the shards: just the references of the batch that it absorbs, of one
-/// that stops just the parts of the shards before, just the horizon that it raises, just both of the
-/// message that it receives; and any other call nothing. So two threads absorb a batch each, one is
-/// detached into the other, which closes the shards: all nodes come back, and together stand for
-/// what they opened with and both batches, and for nothing else.
+/// What a thread's call gives the shards: just the references of the batch that it absorbs, just the
+/// horizon that it raises, just both of the message that it receives. One that stops at a shard
+/// gives just the parts of the shards before, and any other call nothing. So two threads absorb a
+/// batch each, one is detached into the other, which closes the shards: all nodes come back, and
+/// together stand for what they opened with and both batches, and for nothing else.
 pub fn threads_give()
     ensures given { ThreadsGive }
     ensures two { TwoThreadsAreHeld }
