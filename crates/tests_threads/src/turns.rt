@@ -4,11 +4,12 @@ ghost use Rattle.std.specs.Prelude.{◌≡◌, Some};
 use crate::setup::comes;
 use std::alloc::Global;
 use std::process::Abort;
+use std::snapshot::Snapshot;
 use std::sync::Wait;
 use std::sync::atomic::{AtomicU64, Ordering};
 use std::thread::{Threads, join};
 use std::time::Clock;
-use warm_turn::{Add, Added, Counter, Machine, Pass, Turn};
+use warm_turn::{Add, Added, CallMade, Counter, Machine, Pass, Turn, Visit, Visited};
 
 // A turn over a counter at this total.
 fn counter_at(rt: &impl Abort, alloc: Global, total: u64) -> (Turn<Counter>, Pass<Counter>)
@@ -90,6 +91,75 @@ fn a_full_counter_stays(rt: HostRuntime) {
             && none == Added::Total(18446744073709551615)
             && total == 18446744073709551615
     );
+}
+
+// Adds one where the counter lies.
+#[derive(Drop)]
+struct AddOne;
+
+impl Visit<Counter> for AddOne {
+    ghost use Rattle.std.specs.Prelude.{◌≡◌, ⊤};
+
+    type Output = Added;
+
+    ghost ready = { λ _. ⊤ };
+
+    ghost makes = { λ _ output call reply. (call.0 ≡ 1) × (reply ≡ output) };
+
+    fn visit(self, counter: &mut Counter) -> Visited<Add, Added, Added> {
+        let output = counter.call(Add(1));
+        let made = CallMade {
+            call: Snapshot::of(&Add(1)),
+            reply: Snapshot::of(&output),
+        };
+        Visited { made, output }
+    }
+}
+
+// Adds one, and during the visit tries another visit through a pass of its own, which comes back.
+#[derive(Drop)]
+struct AddOneAndTry<'a> {
+    turn: &'a Turn<Counter>,
+    pass: Pass<Counter>,
+}
+
+impl<'a> Visit<Counter> for AddOneAndTry<'a> {
+    ghost use Rattle.std.specs.Prelude.{◌≡◌};
+
+    type Output = bool;
+
+    ghost ready = { λ v. v.pass.table ≡ v.turn.now.table };
+
+    ghost makes = { λ _ _ call _. call.0 ≡ 1 };
+
+    fn visit(self, counter: &mut Counter) -> Visited<Add, Added, bool> {
+        let AddOneAndTry { turn, mut pass } = self;
+        let reply = counter.call(Add(1));
+        let came_back = turn.try_visit(&mut pass, AddOne).is_err();
+        let made = CallMade {
+            call: Snapshot::of(&Add(1)),
+            reply: Snapshot::of(&reply),
+        };
+        Visited {
+            made,
+            output: came_back,
+        }
+    }
+}
+
+// A try waits for nobody: one that is made during a visit comes back, and one that is made after it
+// is let in.
+#[test]
+fn a_try_during_a_visit_comes_back(rt: HostRuntime) {
+    let (turn, mut first) = counter_at(&rt, rt.alloc(), 5);
+    let pass = turn.pass(&mut first);
+    let came_back = turn
+        .visit(&rt, &mut first, AddOneAndTry { turn: &turn, pass })
+        .ok()
+        .expect(&rt, "a ticket");
+    let added = turn.try_visit(&mut first, AddOne).ok();
+    let total = closed(&rt, turn, first);
+    assert!(rt; came_back && added == Some(Added::Total(7)) && total == 7);
 }
 
 // A gate that holds two threads back until two others are done.

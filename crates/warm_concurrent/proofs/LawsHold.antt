@@ -149,7 +149,7 @@ beside o y copying (Copied h) is step = ap (λ (n : NodeState). n.history) step.
 beside o y copying (Refused why) is step = ap (λ (n : NodeState). n.history) step.1
 beside o y copying r is step = absurd step
 beside o y (retiring dev told) Done is step = step.2.history
-beside o y (retiring dev told) (Refused (Pool fault)) is step = step.2.history
+beside o y (retiring dev told) (Refused (Pool _)) is step = step.2.history
 beside o y (retiring dev told) (Refused Memory) is step = ap (λ (n : NodeState). n.history) step
 beside o y (retiring dev told) r is step = absurd step
 

@@ -17,6 +17,43 @@ use warm_shards::shard_of;
 use warm_stamps::PageId;
 use warm_turn::{Pass, Turn};
 
+// Looks at a page in its shard, where other callers may have to be waited for.
+//
+// It is one call, to which the page and the closure go in registers: it takes no room in a look that
+// waits for nobody, where each room would be cleared.
+#[inline(never)]
+fn look_later<D: PageDevice + Send, R: Wait, T, F: FnOnce(&[u8]) -> T + Drop>(
+    rt: &R,
+    turns: &Vec<Turn<Shard<D>>>,
+    passes: &mut Vec<Pass<Shard<D>>>,
+    page: PageId,
+    f: F,
+) -> Result<T, SharedFault>
+    requires turns { AreTurns turns.now.items }
+    requires passes { AreOf turns.now.items passes.old.items }
+    requires callable { F.IsAlwaysCallable f }
+    ensures passes { AreOf turns.now.items passes.new.items }
+    ensures looked { IfOk result (λ given.
+        LooksAt passes.old.items (shard_of (length turns.now.items) page) page
+        (λ bytes. FnOnceReturnsAt F.FnOnce f bytes given) passes.new.items) }
+    ensures refused { IfErr result (λ why. CallFails passes.old.items
+        (shard_of (length turns.now.items) page) (Look page) why passes.new.items) }
+{
+    let count = turns.len();
+    let number = shard_of(count, page);
+    let looking = Looking {
+        page,
+        place: Place { count, number },
+        f,
+    };
+    match visit_or_back(rt, turns, passes, number, looking) {
+        Ok(Went::Given(given)) => Ok(given),
+        Ok(Went::Refused(why)) => Err(SharedFault::Node(why)),
+        Ok(Went::Foreign) => unreachable!(),
+        Err(_visitor) => Err(SharedFault::TurnsSpent),
+    }
+}
+
 // Changes a page in its shard.
 fn change_at<D: PageDevice + Send, R: Wait, T, F: FnOnce(&mut [u8]) -> T + Drop>(
     rt: &R,
@@ -84,11 +121,13 @@ impl<D: PageDevice + Send> SharedShards<D> {
             place: Place { count, number },
             f,
         };
-        match self.turns[number].visit(rt, &mut attached.passes[number], looking) {
+        match self.turns[number].try_visit(&mut attached.passes[number], looking) {
             Ok(Went::Given(given)) => Ok(given),
             Ok(Went::Refused(why)) => Err(SharedFault::Node(why)),
             Ok(Went::Foreign) => unreachable!(),
-            Err(_spent) => Err(SharedFault::TurnsSpent),
+            Err(Looking { page, place: _, f }) => {
+                look_later(rt, &self.turns, &mut attached.passes, page, f)
+            }
         }
     }
 

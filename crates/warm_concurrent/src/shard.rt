@@ -119,6 +119,7 @@ fn are_own_buckets(count: usize, number: usize, request: BucketSet) -> bool
 }
 
 // Whether each page and each bucket that the call brings is of the shard of this number.
+#[inline(always)]
 fn is_own(count: usize, number: usize, call: &ShardCall) -> bool
     requires { IsShardCount count }
     ensures { IsTrue result ↔ IsOwn count number call.now }
@@ -246,6 +247,10 @@ fn write_some<D: PageDevice>(node: &mut Node<D>, limit: usize) -> Result<ShardRe
 }
 
 // Has the node answer the call, or returns why it is refused.
+//
+// It is inlined at each place where a shard is called, as is all between: there the kind of the call
+// is known, and one of these arms is left.
+#[inline(always)]
 fn answer<D: PageDevice>(
     alloc: Global,
     node: &mut Node<D>,
@@ -376,6 +381,7 @@ impl<D: PageDevice> Shard<D> {
 
     /// Answers a call: `ShardStep`. A call that brings a page, or a bucket, of another shard is
     /// answered `Foreign`, and nothing has changed.
+    #[inline(always)]
     pub fn call(&mut self, call: ShardCall) -> ShardReply
         ensures { ShardStep self.old call result self.new }
     {
@@ -430,6 +436,7 @@ impl<D: PageDevice + Send> Machine for Shard<D> {
 
     ghost goes = { ShardStep };
 
+    #[inline(always)]
     fn call(&mut self, call: ShardCall) -> ShardReply {
         Shard::call(self, call)
     }

@@ -1,6 +1,6 @@
 //! The turn, its passes and notes.
 ghost use Rattle.std.specs.Prelude.{◌≡◌, ◌≢◌, ℕ, ◌<◌, [], ◌∷◌, Some};
-ghost use Rattle.std.specs.Prelude.{true, false, IfOk, IfErr, IsOk, OnOk};
+ghost use Rattle.std.specs.Prelude.{true, false, IfOk, IfErr, IsOk, OnErr, OnOk};
 ghost use Rattle.warm_turn.specs.declared.table.CallMade.{CallMade};
 ghost use Rattle.warm_turn.specs.declared.table.CellContents.{CellContents};
 ghost use Rattle.warm_turn.specs.CallHistories.{calls_by, first_pass, new_pass, pass_note, marked};
@@ -14,7 +14,7 @@ use crate::fault::{Busy, Memory, TurnsSpent};
 use crate::plays::{Become, CatchUp, Come, End, GiveNote, GivePass, Learn, PassOn};
 use crate::table::{BoxedMachine, CellContents, MachineCell, SharedTable, TicketTable, TurnSeat};
 use crate::visit::{Calling, Visit, Visited};
-use crate::waiting::{Tried, is_served, poll_for_ticket, poll_for_turn, try_ticket};
+use crate::waiting::{poll_for_ticket, poll_for_turn, try_turn};
 use atomic_table::{Refused, Table};
 use std::alloc::{AllocFailed, Global};
 use std::marker::Model;
@@ -351,6 +351,30 @@ impl<M: Machine> Turn<M> {
         self.table.shared.load::<CatchUp>(&mut pass.seat, 0);
     }
 
+    /// Visits the machine as [`Turn::visit`] does, where the turn is free at once. Otherwise the
+    /// visitor comes back, which has not run, and the pass is unchanged. It does not wait.
+    ///
+    /// It is for callers that have more to do where they must wait: most visits wait for nobody, and
+    /// such a caller's own slow way then takes no room beside this one.
+    #[inline(always)]
+    pub fn try_visit<V: Visit<M>>(&self, pass: &mut Pass<M>, visitor: V) -> Result<V::Output, V>
+        requires table { pass.old.table ≡ self.now.table }
+        requires ready { V.ready visitor }
+        ensures table { pass.new.table ≡ self.now.table }
+        ensures visited { IfOk result (λ output. MadeVisit M.goes (V.makes visitor output)
+            pass.old.view pass.new.view) }
+        ensures same { OnErr result (pass.new ≡ pass.old) }
+        ensures given_back { IfErr result (λ back. back ≡ visitor) }
+    {
+        let shared = &self.table.shared;
+        if !try_turn(shared, &mut pass.seat) {
+            return Err(visitor);
+        }
+        let output = serve(shared, &mut pass.seat, visitor);
+        pass_on(shared, &mut pass.seat);
+        Ok(output)
+    }
+
     /// Takes the next ticket, waits until it is served, lets the visitor have the machine and
     /// passes the turn on. It does most of its waiting before it takes the ticket, when it delays
     /// nobody.
@@ -377,19 +401,9 @@ impl<M: Machine> Turn<M> {
         ensures spent { IfErr result (λ e. pass.new.view ≡ marked pass.old.view) }
         ensures given_back { IfErr result (λ e. e.call ≡ visitor) }
     {
-        let shared = &self.table.shared;
-        match try_ticket(shared, &mut pass.seat) {
-            Tried::Taken(ticket) => {
-                if !is_served(shared, &mut pass.seat, ticket) {
-                    let output = visit_later(rt, shared, &mut pass.seat, ticket, visitor);
-                    return Ok(output);
-                }
-                let output = serve(shared, &mut pass.seat, visitor);
-                pass_on(shared, &mut pass.seat);
-                Ok(output)
-            }
-            Tried::Last => Err(TurnsSpent { call: visitor }),
-            Tried::Contended => wait_and_visit(rt, shared, &mut pass.seat, visitor),
+        match self.try_visit(pass, visitor) {
+            Ok(output) => Ok(output),
+            Err(visitor) => wait_and_visit(rt, &self.table.shared, &mut pass.seat, visitor),
         }
     }
 
@@ -403,6 +417,9 @@ impl<M: Machine> Turn<M> {
     /// seen, adds no operation and leaves the pass unchanged except for the mark. The waiting time
     /// is not specified: a call may wait forever, for example where an earlier call of the machine
     /// never returns.
+    // Inlined, so that a machine that does something else for each kind of call need not test of
+    // which kind a call is: at the place of the call that is known.
+    #[inline(always)]
     pub fn call<R: Wait>(
         &self,
         rt: &R,

@@ -52,6 +52,7 @@ impl<M: Machine> Visit<M> for Calling<M::Call> {
 
     ghost makes = { λ visitor output call reply. (call ≡ visitor.call) × (reply ≡ output) };
 
+    #[inline(always)]
     fn visit(self, machine: &mut M) -> Visited<M::Call, M::Reply, M::Reply> {
         let Calling { call } = self;
         let asked = Snapshot::of(&call);

@@ -1,14 +1,13 @@
 //! Taking a ticket, and waiting until it is served.
 //!
-//! Each is tried once without waiting, which is enough where nobody else uses the machine. What
+//! Both are tried once without waiting, which is enough where nobody else uses the machine. What
 //! polls and sleeps may wait, and each call of a function that may costs a look at a flag.
 ghost use Rattle.std.specs.Prelude.{◌≡◌, ◌+◌, ◌<◌, ◌^◌, true, false, [], IfSome, IfNone, IsTrue};
 ghost use Rattle.warm_turn.specs.CallHistories.{IsPass, marked};
 ghost use Rattle.warm_turn.specs.Rule.{IsTicketTable};
-ghost use Rattle.warm_turn.specs.Steps.{HasTicket, HasMachine};
-ghost use Rattle.warm_turn.specs.Tries.{HasTried};
+ghost use Rattle.warm_turn.specs.Steps.{HasTicket, HasTurn, HasMachine};
 
-use crate::plays::{Look, Take};
+use crate::plays::{Forget, Glance, Look, Seize, Take};
 use crate::table::{SharedTable, TurnSeat};
 use std::hint::spin_loop;
 use std::sync::Wait;
@@ -67,56 +66,30 @@ fn tried_for(next: u64) -> u64
     if next == u64::MAX { 0 } else { next }
 }
 
-// What one try for a ticket gave.
-pub(crate) enum Tried {
-    // This ticket was taken.
-    Taken(u64),
-    // The last number was in the ticket word.
-    Last,
-    // The next ticket would not be served at once, or another caller took it.
-    Contended,
-}
-
-// Tries to take a ticket that is served at once. It does not wait.
-pub(crate) fn try_ticket<M: Machine>(shared: &SharedTable<M>, seat: &mut TurnSeat<M>) -> Tried
+// Takes the next ticket and the machine, where the turn is free at once. It does not wait.
+//
+// The serving word never falls, and is never greater than the ticket word. So a ticket that was
+// seen to be served is served when it is taken, and no look follows. A ticket word that is not equal
+// is not tried, since an exchange takes the words' cache line from the caller that is served.
+#[inline(always)]
+pub(crate) fn try_turn<M: Machine>(shared: &SharedTable<M>, seat: &mut TurnSeat<M>) -> bool
     requires table { (seat.old.table_id ≡ shared.now.table_id) × IsTicketTable shared.now.table_id }
-    requires idle { IsPass M.goes seat.old.me.0 }
+    requires idle { (seat.old.me.1 ≡ []) × IsPass M.goes seat.old.me.0 }
     ensures table { (seat.new.table_id ≡ seat.old.table_id) × (seat.new.id ≡ seat.old.id) }
-    ensures tried { HasTried seat.old.me result seat.new.me }
+    ensures turn { IsTrue result → HasTurn M.view seat.old.me.0 seat.new.me }
+    ensures same { result ≡ false → seat.new.me ≡ seat.old.me }
 {
     let next = shared.peek(0);
-    if next != shared.peek(1) {
-        return Tried::Contended;
+    let served = shared.load::<Glance>(seat, 1);
+    if served != next || served == u64::MAX {
+        shared.load::<Forget>(seat, 0);
+        return false;
     }
-    let expected = tried_for(next);
-    let found = shared.compare_exchange::<Take>(seat, 0, expected, expected + 1);
-    if found == expected {
-        return Tried::Taken(found);
+    let found = shared.compare_exchange::<Seize>(seat, 0, served, served + 1);
+    if found != served {
+        return false;
     }
-    if found == u64::MAX {
-        return Tried::Last;
-    }
-    Tried::Contended
-}
-
-// Whether the ticket is served. Then the seat has the machine. It does not wait.
-pub(crate) fn is_served<M: Machine>(
-    shared: &SharedTable<M>,
-    seat: &mut TurnSeat<M>,
-    ticket: u64,
-) -> bool
-    requires table { (seat.old.table_id ≡ shared.now.table_id) × IsTicketTable shared.now.table_id }
-    requires waits { (seat.old.me.1 ≡ []) × (seat.old.me.0.waits ≡ true)
-        × (seat.old.me.0.serves ≡ false) × (seat.old.me.0.ticket ≡ ticket) }
-    ensures table { (seat.new.table_id ≡ seat.old.table_id) × (seat.new.id ≡ seat.old.id) }
-    ensures served { IsTrue result → HasMachine M.view seat.old.me.0 seat.new.me }
-    ensures waits { result ≡ false → seat.new.me ≡ seat.old.me }
-{
-    let served = shared.load::<Look>(seat, 1);
-    if served == ticket {
-        return true;
-    }
-    false
+    true
 }
 
 // Takes a ticket, or finds the last number in the ticket word.
