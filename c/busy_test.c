@@ -222,6 +222,24 @@ static void test_hold_behind_a_read(void) {
     MUST(reads == 1);
 }
 
+/* The system does not order memory any more: then who gives up a hold does, from there on. */
+static void test_order_that_ends(void) {
+    warm *holder = &callers[2].handle;
+    warm_slot slot;
+    begin_beside_a_hold(holder, &slot);
+    const table *of = &first_shard()->table;
+    system_orders = false;
+    int before = orders;
+    begin(1, PINS, page_at(5));
+    until_waiting(1);
+    MUST(orders == before + 1 && atomic_load(&of->wanting) == ORDERS_ITSELF + ONE_WANTS);
+    OK(warm_unpin(holder, slot));
+    MUST(atomic_load(&of->wanting) != 0);
+    end_beside_a_hold(PINS);
+    MUST(orders == before + 1);
+    system_orders = true;
+}
+
 /* A pin that finds the record closed takes back its hold and wakes nobody, as it pins the page in
  * the shard next. Another call may be first, and load a page in its place, which may leave then. */
 static void test_hold_in_vain(void) {
@@ -285,6 +303,7 @@ static void test_holds(void) {
     system_orders = true;
     test_hold_behind_a_read();
     test_hold_in_vain();
+    test_order_that_ends();
     for (int call = PINS; call <= PREFETCHES; call++) {
         int question = 1;
         while (gives_up_between(call, question)) question++;

@@ -21,8 +21,13 @@
 #include <time.h>
 #include <unistd.h>
 
-/* Other threads have their turn. A turn may be a long one of another program: there are some seconds
- * of them, which no test needs. */
+/* Tests of threads make this many times fewer rounds: under helgrind, which is slow (c/check). */
+#ifndef FEWER
+#define FEWER 1
+#endif
+
+/* Other threads have their turn. A turn may be a long one of another program: there are some
+ * seconds of them, which no test needs. */
 static void give_turn(void) {
     static atomic_llong spent; /* nanoseconds, of all threads */
     struct timespec begun, ended;

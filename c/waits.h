@@ -8,9 +8,9 @@
  * none: write-backs (writes.h), and who forgets pages or replaces a device.
  *
  * Who waits for a frame is also woken where a pin is taken back, a page is written, or pages leave.
- * A hold is given up with no shard entered (give_up_hold of shards.h): first its word is 0, and then its
- * holder looks whether somebody wants a frame. Who wants one says so first, and then looks at the
- * holds. So one of the two sees the other, if neither look comes before the store of its own
+ * A hold is given up with no shard entered (give_up_hold of shards.h): first its word is 0, and
+ * then its holder looks whether somebody wants a frame. Who wants one says so first, and then looks
+ * at the holds. So one of the two sees the other, if neither look comes before the store of its own
  * thread. For the store of who gives up a hold, which is in each hit, that would take as long as a
  * tenth of the hit. So who wants a frame has the system order the memory of all threads between its
  * store and its look (membarrier): the other one's store came before that, and is seen, or its look
