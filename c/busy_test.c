@@ -170,33 +170,39 @@ static int give_up(warm *by, warm_slot slot, bool abandons) {
     return taken - before;
 }
 
-/* The page that another handle holds leaves as soon as it may. */
-static void begin_beside_a_hold(warm *holder, warm_slot *slot) {
-    open_all(1, 2);
-    write_to(&first, page_at(0), 'd');
-    pin_twice(&first, 1);
-    *slot = hold_page(holder, 1);
+/* Of the last shard: a page that is written, and one that another handle holds, which leaves for
+ * page 5 as soon as it may. */
+static uint64_t written_no, held_no;
+
+static void begin_beside_a_hold(size_t shards, warm *holder, warm_slot *slot) {
+    open_all(shards, 2 * shards);
+    written_no = shards - 1;
+    held_no = written_no + shards;
+    write_to(&first, page_at(written_no), 'd');
+    pin_twice(&first, held_no);
+    *slot = hold_page(holder, held_no);
     reads = 0;
-    stop_writes_of(bit(0));
-    begin(0, WRITES_ONE, page_at(0));
-    until_written(bit(0));
+    stop_writes_of(bit(written_no));
+    begin(0, WRITES_ONE, page_at(written_no));
+    until_written(bit(written_no));
 }
 
 static void end_beside_a_hold(int call) {
-    MUST(end(1) == WARM_OK && is_in(&first, 0) && !is_in(&first, 1) && is_in(&first, 5));
-    end_writes(bit(0));
+    MUST(end(1) == WARM_OK && is_in(&first, 5));
+    MUST(is_in(&first, written_no) && !is_in(&first, held_no));
+    end_writes(bit(written_no));
     MUST(end(0) == WARM_OK && put == 1);
     if (call != PREFETCHES) unpin(1);
     close_all();
 }
 
-static void beside_a_hold(int call, bool abandons) {
+static void beside_a_hold(size_t shards, int call, bool abandons) {
     warm *holder = &callers[2].handle;
     warm_slot slot;
     int before = orders;
-    begin_beside_a_hold(holder, &slot);
+    begin_beside_a_hold(shards, holder, &slot);
     MUST(orders == before + 1 && give_up(holder, slot, false) == 0);
-    slot = hold_page(holder, 1);
+    slot = hold_page(holder, held_no);
     begin(1, call, page_at(5));
     until_waiting(1);
     not_over(1);
@@ -204,16 +210,49 @@ static void beside_a_hold(int call, bool abandons) {
     end_beside_a_hold(call);
 }
 
+/* Two may want a frame at once: the second one of them needs no order of its own. */
+static void test_two_who_want(void) {
+    warm *holder = &callers[2].handle;
+    warm_slot slot;
+    begin_beside_a_hold(1, holder, &slot);
+    int before = orders;
+    begin(1, PINS, page_at(5));
+    until_waiting(1);
+    begin(3, PREFETCHES, page_at(6));
+    until_waiting(2);
+    MUST(orders == before + 1);
+    OK(warm_unpin(holder, slot));
+    end_writes(bit(0));
+    MUST(end(1) == WARM_OK && end(3) == WARM_OK && end(0) == WARM_OK);
+    MUST(is_in(&first, 5));
+    unpin(1);
+    close_all();
+}
+
+/* Where the system does it no more, who gives up a hold is told. */
+static void test_an_order_refused(void) {
+    warm *holder = &callers[2].handle;
+    warm_slot slot;
+    begin_beside_a_hold(1, holder, &slot);
+    system_orders = false;
+    begin(1, PINS, page_at(5));
+    until_waiting(1);
+    MUST(first_shard()->table.wanting == ORDERS_ITSELF + ONE_WANTS);
+    system_orders = true;
+    OK(warm_unpin(holder, slot));
+    end_beside_a_hold(PINS);
+}
+
 /* The pin has read its page when it begins to wait. */
 static void test_hold_behind_a_read(void) {
     warm *holder = &callers[2].handle;
     warm_slot slot;
-    begin_beside_a_hold(holder, &slot);
+    begin_beside_a_hold(1, holder, &slot);
     OK(warm_unpin(holder, slot));
     stops_at = 5;
     begin(1, PINS, page_at(5));
     until_begun(1);
-    slot = hold_page(holder, 1);
+    slot = hold_page(holder, held_no);
     may_end = 1;
     until_waiting(1);
     not_over(1);
@@ -222,30 +261,12 @@ static void test_hold_behind_a_read(void) {
     MUST(reads == 1);
 }
 
-/* The system does not order memory any more: then who gives up a hold does, from there on. */
-static void test_order_that_ends(void) {
-    warm *holder = &callers[2].handle;
-    warm_slot slot;
-    begin_beside_a_hold(holder, &slot);
-    const table *of = &first_shard()->table;
-    system_orders = false;
-    int before = orders;
-    begin(1, PINS, page_at(5));
-    until_waiting(1);
-    MUST(orders == before + 1 && atomic_load(&of->wanting) == ORDERS_ITSELF + ONE_WANTS);
-    OK(warm_unpin(holder, slot));
-    MUST(atomic_load(&of->wanting) != 0);
-    end_beside_a_hold(PINS);
-    MUST(orders == before + 1);
-    system_orders = true;
-}
-
 /* A pin that finds the record closed takes back its hold and wakes nobody, as it pins the page in
  * the shard next. Another call may be first, and load a page in its place, which may leave then. */
 static void test_hold_in_vain(void) {
     warm *holder = &callers[2].handle;
     warm_slot slot;
-    begin_beside_a_hold(holder, &slot);
+    begin_beside_a_hold(1, holder, &slot);
     opened *its = holder->at;
     begin(1, PINS, page_at(5));
     until_waiting(1);
@@ -279,7 +300,7 @@ static void ask_for_it(void) {
 /* Whether the hold was given up at that question. */
 static bool gives_up_between(int call, int question) {
     pthread_t giver;
-    begin_beside_a_hold(&callers[2].handle, &to_give_up);
+    begin_beside_a_hold(1, &callers[2].handle, &to_give_up);
     questions = 0;
     gives_up_at = question;
     may_give_up = false;
@@ -296,14 +317,15 @@ static bool gives_up_between(int call, int question) {
 
 static void test_holds(void) {
     static const int calls[] = {PINS, PINS_ZEROED, PREFETCHES};
-    for (int way = 0; way < 12; way++) {
+    for (int way = 0; way < 24; way++) {
         system_orders = way % 2 == 0;
-        beside_a_hold(calls[way / 4], way % 4 > 1);
+        beside_a_hold(1 + (size_t)way / 12, calls[way / 4 % 3], way % 4 > 1);
     }
     system_orders = true;
+    test_two_who_want();
+    test_an_order_refused();
     test_hold_behind_a_read();
     test_hold_in_vain();
-    test_order_that_ends();
     for (int call = PINS; call <= PREFETCHES; call++) {
         int question = 1;
         while (gives_up_between(call, question)) question++;

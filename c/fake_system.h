@@ -26,8 +26,8 @@
 #define FEWER 1
 #endif
 
-/* Other threads have their turn. A turn may be a long one of another program: there are some
- * seconds of them, which no test needs. */
+/* Other threads have their turn. It may be a long one of another program: there are some seconds of
+ * turns, and no test needs them. */
 static void give_turn(void) {
     static atomic_llong spent; /* nanoseconds, of all threads */
     struct timespec begun, ended;

@@ -70,7 +70,7 @@ typedef struct table {
     record *records; /* two for each frame or more, and some behind them; they do not move */
     size_t mask;     /* of the half of a first record's number */
     void *block;
-    _Atomic uint32_t wanting; /* see waits.h. Each pin reads this line of memory */
+    _Atomic uint32_t wanting; /* who waits for a frame (waits.h); each hit reads this line */
     _Alignas(LINE) passed *passed; /* and behind them all that was seen: they are one block */
     size_t passed_count, room;     /* as many as all handles have holds */
     uint64_t *seen;                /* the words of this shard that were seen, in any order */

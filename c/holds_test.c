@@ -663,6 +663,20 @@ static void test_late_hold(void) {
     close_two(&first, &second);
 }
 
+/* A handle that is abandoned leaves no page that it held. */
+static void test_abandoning(void) {
+    warm first = {0}, second = {0};
+    open_two(&first, &second, 3);
+    for (uint64_t no = 0; no < 3; no++) {
+        pin_twice(&first, no);
+        hold_page(&second, no);
+    }
+    MUST(warm_forget_pages(&first, 0, 0) == WARM_PINNED);
+    OK(warm_abandon(&second));
+    OK(warm_forget_pages(&first, 0, 0));
+    close_two(&first, &second);
+}
+
 /* ---- threads ---- */
 
 enum { THREADS = 6, PINS = 20000 / FEWER, PAGES = 12 };
@@ -747,6 +761,7 @@ int main(void) {
     test_sorted_words();
     test_same_numbers();
     test_late_hold();
+    test_abandoning();
     test_threads();
     puts("holds_test: as expected");
     return 0;

@@ -46,8 +46,7 @@ static int waited[THREADS];
 static const node_page hot = {.dev = PLAIN};
 
 /* Where threads want frames while one page is written: how many they are, and how many have one,
- * for all of whom the write waits; whether it has begun; how many frames have pages that are
- * held. */
+ * for all of which the write waits; whether it has begun; how many are to hold pages, and do. */
 static int wanters, got, holders, holding;
 static bool is_being_written;
 

@@ -406,7 +406,10 @@ __attribute__((noinline)) static int pin_slowly(
     return status;
 }
 
-int warm_pin_bytes(warm *handle, warm_page page, warm_slot *slot, const uint8_t **bytes) {
+/* A hit takes up to a tenth more where jumps cross lines of memory: so it is not up to the code
+ * before this function and warm_unpin. */
+__attribute__((aligned(LINE))) int warm_pin_bytes(
+    warm *handle, warm_page page, warm_slot *slot, const uint8_t **bytes) {
     opened *its = handle->at;
     if (its == NULL) return WARM_CLOSED;
     node_page its_page = page_in(page);
@@ -440,7 +443,7 @@ __attribute__((noinline)) static int unpin_in_shard(opened *its, warm_slot slot)
     return status;
 }
 
-int warm_unpin(warm *handle, warm_slot slot) {
+__attribute__((aligned(LINE))) int warm_unpin(warm *handle, warm_slot slot) {
     opened *its = handle->at;
     if (its == NULL) return WARM_CLOSED;
     return unpin_by_hold(its, slot) ? WARM_OK : unpin_in_shard(its, slot);

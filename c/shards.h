@@ -36,7 +36,7 @@ typedef struct shard {
     _Alignas(LINE) pthread_mutex_t lock;
     node node;
     reading *reads; /* pages that are being read */
-    _Alignas(LINE) pthread_cond_t call_over; /* a read, a write, its copying, a frame's use */
+    _Alignas(LINE) pthread_cond_t call_over; /* a read, a write, its copying; a frame may be had */
     bool may_be_dirty; /* where not, no page is, and the node need not look at each frame */
     unsigned leaving;  /* how many wait for writes, to forget pages or replace a device */
     writing *writes;   /* pages that are being written */

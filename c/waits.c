@@ -60,10 +60,12 @@ uint32_t nobody_wants(void) {
     return system_does(MEMBARRIER_CMD_REGISTER_PRIVATE_EXPEDITED) ? 0 : ORDERS_ITSELF;
 }
 
-/* Where the system then has no memory for it, this wait may last until a write is over. */
+/* Where somebody wants a frame already, the system need not do it again: who found that nobody does
+ * had given up its hold before. If it has no memory for it, this wait may last until a write is
+ * over. */
 void begin_to_want(shard *in) {
     uint32_t before = atomic_fetch_add(&in->table.wanting, ONE_WANTS);
-    if ((before & ORDERS_ITSELF) == 0 && !system_does(MEMBARRIER_CMD_PRIVATE_EXPEDITED))
+    if (before == 0 && !system_does(MEMBARRIER_CMD_PRIVATE_EXPEDITED))
         atomic_fetch_or(&in->table.wanting, ORDERS_ITSELF);
 }
 
@@ -75,9 +77,10 @@ void wake_wanting(shard *in) {
     if (is_frame_wanted(in)) pthread_cond_broadcast(&in->call_over);
 }
 
+/* The number is changed by nothing: either who wants a frame finds this change, and so what came
+ * before it, or its own change is found here. */
 void enter_and_wake_wanting(shard *in) {
-    atomic_thread_fence(memory_order_seq_cst);
-    if (!is_frame_wanted(in)) return;
+    if (atomic_fetch_add(&in->table.wanting, 0) < ONE_WANTS) return;
     pthread_mutex_lock(&in->lock);
     pthread_cond_broadcast(&in->call_over);
     pthread_mutex_unlock(&in->lock);

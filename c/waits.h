@@ -8,13 +8,14 @@
  * none: write-backs (writes.h), and who forgets pages or replaces a device.
  *
  * Who waits for a frame is also woken where a pin is taken back, a page is written, or pages leave.
- * A hold is given up with no shard entered (give_up_hold of shards.h): first its word is 0, and
- * then its holder looks whether somebody wants a frame. Who wants one says so first, and then looks
- * at the holds. So one of the two sees the other, if neither look comes before the store of its own
- * thread. For the store of who gives up a hold, which is in each hit, that would take as long as a
- * tenth of the hit. So who wants a frame has the system order the memory of all threads between its
- * store and its look (membarrier): the other one's store came before that, and is seen, or its look
- * comes after. Where the system does not do so, the other one is told that it has to.
+ * A hold is given up with no shard entered (give_up_hold of shards.h). Its word is 0 first; then
+ * its holder looks whether somebody wants a frame. Who wants one says so first, and then looks at
+ * the holds. So one of the two sees the other, as long as each one's store comes before its look. A
+ * processor may turn these round. So who wants a frame has the system order the memory of all
+ * threads between the two (membarrier): either the holder's store came before that, and is seen, or
+ * its look comes after it, and sees. A hit has no fence for this: with an exchange in place of the
+ * holder's store it took a tenth more. Where the system does not do so, the holder does, and finds
+ * that in the same number (ORDERS_ITSELF).
  */
 #ifndef WAITS_H
 #define WAITS_H
@@ -57,7 +58,7 @@ void end_to_want(struct shard *in);
 /* By who is in a shard, where a frame may be had now: wakes who wants one. */
 void wake_wanting(struct shard *in);
 
-/* The same by who has given up a hold, and is in no shard. */
-void enter_and_wake_wanting(struct shard *in);
+/* The same by who has given up a hold, and is in no shard: seldom, so that a hit does not jump. */
+__attribute__((cold)) void enter_and_wake_wanting(struct shard *in);
 
 #endif
