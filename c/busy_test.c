@@ -266,7 +266,7 @@ static void test_hold_behind_a_read(void) {
 static void test_hold_in_vain(void) {
     warm *holder = &callers[2].handle;
     warm_slot slot;
-    begin_beside_a_hold(holder, &slot);
+    begin_beside_a_hold(1, holder, &slot);
     opened *its = holder->at;
     begin(1, PINS, page_at(5));
     until_waiting(1);

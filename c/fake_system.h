@@ -21,6 +21,11 @@
 #include <time.h>
 #include <unistd.h>
 
+/* Tests of threads make this many times fewer rounds: under helgrind, which is slow (c/check). */
+#ifndef FEWER
+#define FEWER 1
+#endif
+
 /* Other threads have their turn. It may be a long one of another program: there are some seconds of
  * turns, and no test needs them. */
 static void give_turn(void) {

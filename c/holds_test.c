@@ -679,7 +679,7 @@ static void test_abandoning(void) {
 
 /* ---- threads ---- */
 
-enum { THREADS = 6, PINS = 20000, PAGES = 12 };
+enum { THREADS = 6, PINS = 20000 / FEWER, PAGES = 12 };
 
 static uint64_t draw(uint64_t *drawn) {
     *drawn ^= *drawn << 13;

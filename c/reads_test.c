@@ -420,7 +420,7 @@ static void test_alone_hits(void) {
 
 /* ---- threads ---- */
 
-enum { THREADS = 6, ROUNDS = 4000, PAGES = 10 };
+enum { THREADS = 6, ROUNDS = 4000 / FEWER, PAGES = 10 };
 
 /* Bytes of pages of the first device, each under its lock; those of the second one do not change.
  */

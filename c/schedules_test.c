@@ -408,9 +408,12 @@ static void make_any_call(user *its) {
 static bool is_lonely;             /* the opener is a thread, and at times the only one */
 static bool wants_handle[THREADS]; /* a thread that has none, and waits until it is attached */
 
+/* A thread may end with pins, and its handle is abandoned. */
 static void end_user(user *its) {
-    while (its->count > 0) let_go(its);
-    if (its->handle != &opener) OK(warm_close(its->handle));
+    bool abandons = seed % 8 == 6 && its->handle != &opener;
+    while (its->count > 0 && !abandons) let_go(its);
+    its->count = 0;
+    if (its->handle != &opener) OK(abandons ? warm_abandon(its->handle) : warm_close(its->handle));
 }
 
 static void attach_one(int at) {

@@ -21,9 +21,9 @@ static inline unsigned hold_for(const opened *its, uint64_t word) {
     return (unsigned)__builtin_ctz(~its->used);
 }
 
-/* Holds the record's page, unless another one has the record now. A hold that is given up here wakes
- * nobody who wants a frame: the page is pinned in the shard next, where it is still in its frame. It
- * is not where another one was loaded, whose unpin wakes them. */
+/* Holds the record's page, unless another one has the record now. A hold that is given up here
+ * wakes nobody who wants a frame: the page is pinned in the shard next, where it is still in its
+ * frame. It is not where another one was loaded, whose unpin wakes them. */
 static inline bool hold(
     opened *its, unsigned at, record *its_record, uint32_t state, uint64_t word) {
     HOLDS_PAUSE();
@@ -334,8 +334,8 @@ __attribute__((noinline)) static int pin_listed(opened *its, shard *in, load *it
     return status == READ_AGAIN ? look_again(its, &it->left) : status;
 }
 
-/* The same, without the pin: the node has it for a moment, and has counted a miss. The page may have
- * a frame that was not there for who wants one (see hold). */
+/* The same, without the pin: the node has it for a moment, and has counted a miss. The page may
+ * have a frame that was not there for who wants one (see hold). */
 static int load_read(opened *its, shard *in, load *it) {
     int status = pin_listed(its, in, it);
     if (status != WARM_OK) return status;

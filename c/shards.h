@@ -87,7 +87,8 @@ typedef struct own_hold {
     uint64_t generation, place, pins;
 } own_hold;
 
-/* How many of its pins in nodes a handle knows: these are taken back where it is abandoned. */
+/* How many of its pins in nodes a handle knows: these are taken back where it is abandoned. A node
+ * does not know whose a pin is, and a pin allocates nothing. */
 enum { KNOWN_PINS = 64 };
 
 /* What an open handle points to. */

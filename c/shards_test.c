@@ -289,7 +289,7 @@ static void test_turns(void) {
 
 /* ---- threads ---- */
 
-enum { THREADS = 8, ROUNDS = 400 };
+enum { THREADS = 8, ROUNDS = 400 / FEWER };
 
 /* Each thread has a handle, and a page that no other writes to; all call everything. The fake nodes
  * look that no two are in one. */

@@ -6,7 +6,7 @@
  */
 #include "fake_library.h"
 
-enum { THREADS = 4, ROUNDS = 3000, PAGES = 8, DISKS = 3 };
+enum { THREADS = 4, ROUNDS = 3000 / FEWER, PAGES = 8, DISKS = 3 };
 
 /* A device, and what its pages are to hold, each under its lock. Of the first one before_write
  * tries that lock; pages of the last one do not change, and are forgotten. */

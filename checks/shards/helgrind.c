@@ -1,5 +1,5 @@
 /*
- * helgrind.c: atomic operations as helgrind sees them: each holds the lock of its address meanwhile.
+ * helgrind.c: atomic operations as helgrind sees them: each holds the lock of its address.
  *
  * Helgrind knows the order that locks make, and none that atomic operations make: it takes what one
  * thread writes before an atomic store, and another reads after the load, for a race. A lock for

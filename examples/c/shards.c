@@ -284,8 +284,11 @@ static void attached_handles(void) {
     OK(warm_pin(&first, (warm_page){.no = 5}, &slot));
     EXPECT(WARM_PINS_LEFT, warm_close(&first));
     OK(warm_attach(&first, &second));
+    OK(warm_pin(&second, (warm_page){.no = 6}, &other));
+    EXPECT(WARM_PINNED, warm_forget_pages(&first, 0, 6));
     EXPECT(WARM_ATTACHED, warm_abandon(&first));
-    OK(warm_abandon(&second)); /* as of a thread that has ended */
+    OK(warm_abandon(&second)); /* as of a thread that has ended with a pin */
+    OK(warm_forget_pages(&first, 0, 6));
     OK(warm_abandon(&first));  /* who opened it may end it with pins, and with what is dirty */
     MUST(first.at == NULL);
     close(fd);
