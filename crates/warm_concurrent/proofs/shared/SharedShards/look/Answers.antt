@@ -16,7 +16,7 @@ unreachable-requires g c =
     let page = c.args.page in
     let i = c.shard_of-number.result in
     let n = c.index_mut.result.now in
-    let p = c.visit.new.pass in
+    let p = c.try_visit.new.pass in
     let are : AreOf turns old = subst (λ (ts : List ShardTurn). AreOf ts old) (sym c.self.view_is) (subst (λ (v : AttachedView). AreOf c.args.self.now v.passes) (sym c.attached.view_is) c.requires.passes) in
     let size : c.len-count.result ≡ length turns = omega (arith, c.len-count.ensures, c.self.inside.turns.ok.0) in
     let lt : i < length turns = omega (arith, c.shard_of-number.ensures.below, size) in
@@ -33,13 +33,13 @@ returns-clause-looked g c =
     let page = c.args.page in
     let i = c.shard_of-number.result in
     let n = c.index_mut.result.now in
-    let p = c.visit.new.pass in
+    let p = c.try_visit.new.pass in
     let are : AreOf turns old = subst (λ (ts : List ShardTurn). AreOf ts old) (sym c.self.view_is) (subst (λ (v : AttachedView). AreOf c.args.self.now v.passes) (sym c.attached.view_is) c.requires.passes) in
     let size : c.len-count.result ≡ length turns = omega (arith, c.len-count.ensures, c.self.inside.turns.ok.0) in
     let lt : i < length turns = omega (arith, c.shard_of-number.ensures.below, size) in
     let is : n ≡ shard_pass old i = read_at old i n n no_pass (omega (arith, lt, are.count)) c.index_mut.ensures.value in
     let at : i ≡ shard_of (length c.args.self.now) page = c.shard_of-number.ensures.value ∙ ap (λ k. shard_of k page) (size ∙ ap (λ (ts : List ShardTurn). length ts) c.self.view_is) in
-    elim c.match-visit.branch [
+    elim c.match-try_visit.branch [
       | in-Ok-Given w ↦
           let given = w.in-Ok-Given.given in
           let made = w.in-Ok-Given.ensures.visited in
