@@ -12,6 +12,7 @@
 //! - [`Turn::call`] makes a call. Its list begins with all that the pass had seen and ends with it.
 //! - [`Turn::visit`] lets a [`Visit`] have the machine itself for one turn. The visitor says by a
 //!   call and a reply what it did, and the visit stands in the list as that call.
+//!   [`Turn::try_visit`] does so where it need not wait, and else gives the visitor back.
 //! - By [`Turn::note`] and [`Turn::learn`] one pass learns what another has seen, and [`Turn::end`]
 //!   ends a pass into another. Both lists begin the new one.
 //! - [`Turn::opening_note`] is for code that was given a turn and a pass: contracts then know that
