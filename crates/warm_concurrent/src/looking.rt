@@ -125,9 +125,7 @@ impl<D: PageDevice + Send> SharedShards<D> {
             Ok(Went::Given(given)) => Ok(given),
             Ok(Went::Refused(why)) => Err(SharedFault::Node(why)),
             Ok(Went::Foreign) => unreachable!(),
-            Err(Looking { page, place: _, f }) => {
-                look_later(rt, &self.turns, &mut attached.passes, page, f)
-            }
+            Err(Looking { f, .. }) => { look_later(rt, &self.turns, &mut attached.passes, page, f) }
         }
     }
 

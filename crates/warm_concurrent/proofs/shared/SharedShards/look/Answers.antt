@@ -6,7 +6,6 @@ use Rattle.warm_concurrent.specs.Visits.{LooksAt, Shows}
 use Rattle.warm_concurrent.proofs.Looked.{is_here, looked}
 use Rattle.warm_concurrent.proofs.Passing.{answered, may}
 use Rattle.warm_concurrent.proofs.Places.{read_at}
-use Rattle.warm_concurrent.proofs.shared.SharedShards.look.Goals.{in-Ok-Given, in-Ok-Refused, in-Err}
 use Rattle.warm_concurrent.proofs.shared.SharedShards.look.Goals as goal
 
 pub unreachable-requires : goal.unreachable-requires
@@ -26,8 +25,8 @@ unreachable-requires g c =
     is_here (λ t. Shows (λ bytes. FnOnceReturnsAt g.F.FnOnce c.args.f bytes t)) (length turns) i page c.in-Ok-Foreign.field-0 made.0 made.1 c.in-Ok-Foreign.field-0-is made.2.0 made.2.1
     (may turns old i p are lt n made.0 made.1 c.self.invariant is made.3) own
 
-pub returns-clause-looked : goal.returns-clause-looked
-returns-clause-looked g c =
+pub returns-in-Ok-Given-clause-looked : goal.returns-in-Ok-Given-clause-looked
+returns-in-Ok-Given-clause-looked g c =
     let turns = c.self.inside.turns.items in
     let old = c.attached.inside.passes.items in
     let page = c.args.page in
@@ -39,14 +38,9 @@ returns-clause-looked g c =
     let lt : i < length turns = omega (arith, c.shard_of-number.ensures.below, size) in
     let is : n ≡ shard_pass old i = read_at old i n n no_pass (omega (arith, lt, are.count)) c.index_mut.ensures.value in
     let at : i ≡ shard_of (length c.args.self.now) page = c.shard_of-number.ensures.value ∙ ap (λ k. shard_of k page) (size ∙ ap (λ (ts : List ShardTurn). length ts) c.self.view_is) in
-    elim c.match-try_visit.branch [
-      | in-Ok-Given w ↦
-          let given = w.in-Ok-Given.given in
-          let made = w.in-Ok-Given.ensures.visited in
-          let seen = looked (λ t bytes. FnOnceReturnsAt g.F.FnOnce c.args.f bytes t) old i page (set old i p) given w.in-Ok-Given.field-0 made.0 made.1 w.in-Ok-Given.field-0-is made.2.0 made.2.1
-          (answered turns old i p are lt n made.0 made.1 is made.3) in
-          rw w.result-is
-          (subst (λ (v : AttachedView). LooksAt v.passes (shard_of (length c.args.self.now) page) page (λ bytes. FnOnceReturnsAt g.F.FnOnce c.args.f bytes given) (set old i p)) c.attached.view_is (subst (λ k. LooksAt old k page (λ bytes. FnOnceReturnsAt g.F.FnOnce c.args.f bytes given) (set old i p)) at seen))
-      | in-Ok-Refused w ↦ rw w.result-is tt
-      | in-Err w ↦ rw w.result-is tt
-    ]
+    let given = c.in-Ok-Given.given in
+    let made = c.in-Ok-Given.ensures.visited in
+    let seen = looked (λ t bytes. FnOnceReturnsAt g.F.FnOnce c.args.f bytes t) old i page (set old i p) given c.in-Ok-Given.field-0 made.0 made.1 c.in-Ok-Given.field-0-is made.2.0 made.2.1
+    (answered turns old i p are lt n made.0 made.1 is made.3) in
+    rw c.in-Ok-Given.field-0-is
+    (subst (λ (v : AttachedView). LooksAt v.passes (shard_of (length c.args.self.now) page) page (λ bytes. FnOnceReturnsAt g.F.FnOnce c.args.f bytes given) (set old i p)) c.attached.view_is (subst (λ k. LooksAt old k page (λ bytes. FnOnceReturnsAt g.F.FnOnce c.args.f bytes given) (set old i p)) at seen))
