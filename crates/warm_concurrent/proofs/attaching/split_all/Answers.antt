@@ -1,4 +1,4 @@
-use Rattle.std.proofs.Common.{◌≡◌, ◌<◌, ◌≤◌, ◌∙◌, ◌∷◌, ℕ, [], length, ap, sym, arith}
+use Rattle.std.proofs.Common.{◌≡◌, ◌<◌, ◌∙◌, ◌∷◌, [], length, ap, sym, arith}
 use Rattle.std.proofs.lemmas.List.{length-append}
 use Rattle.warm_concurrent.specs.Attached.{IsPassOf, ShardPass, ShardTurn, known_of, no_pass, no_turn, shard_pass, shard_turn}
 use Rattle.warm_concurrent.specs.Opening.{IsSplit}

@@ -1,4 +1,4 @@
-use Rattle.std.proofs.Common.{◌≡◌, ◌++◌, ◌∷◌, [], append_assoc, sym, ap, ◌∙◌}
+use Rattle.std.proofs.Common.{◌++◌, ◌∷◌, [], append_assoc, sym, ap, ◌∙◌}
 use Rattle.warm_frames.specs.Chunks.{bucket_messages}
 use Rattle.warm_peer.specs.State.{PeerState}
 use Rattle.warm_peer.proofs.AnswerLemmas.{all_requested, one_bucket_more}
