@@ -273,7 +273,7 @@ static size_t without_record(size_t frames, size_t distance) {
 /* Pages that follow each other have records: of one in fifty at most is there none, in shards of
  * each size. */
 static void test_spreading(void) {
-    for (size_t frames = 1; frames <= 65536; frames *= 2) {
+    for (size_t frames = 1; frames <= 65536 / FEWER; frames *= 2) {
         for (size_t distance = 1; distance <= 128; distance *= 2)
             MUST(without_record(frames, distance) <= frames / 50 + 2);
     }
