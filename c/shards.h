@@ -122,12 +122,13 @@ typedef struct opened {
 /* Gives up a hold that the handle uses, and wakes who wants a frame (waits.h). */
 static inline void give_up_hold(opened *its, unsigned at) {
     shard *in = &its->shards[its->own[at].place >> SLOT_SHARD];
+    _Atomic uint64_t *word = &its->holds->words[at];
     its->used &= ~(1u << at);
-    atomic_store_explicit(&its->holds->words[at], 0, memory_order_release);
+    atomic_store_explicit(word, 0, memory_order_release);
     HOLDS_PAUSE();
     atomic_signal_fence(memory_order_seq_cst); /* the compiler keeps the two in this order */
     if (atomic_load_explicit(&in->table.wanting, memory_order_relaxed) != 0)
-        enter_and_wake_wanting(in);
+        enter_and_wake_wanting(in, word);
 }
 
 static inline size_t bytes_of_devices(const replica *of) { return (of->device_count + 7) / 8; }

@@ -77,10 +77,11 @@ void wake_wanting(shard *in) {
     if (is_frame_wanted(in)) pthread_cond_broadcast(&in->call_over);
 }
 
-/* The number is changed by nothing: either who wants a frame finds this change, and so what came
- * before it, or its own change is found here. */
-void enter_and_wake_wanting(shard *in) {
-    if (atomic_fetch_add(&in->table.wanting, 0) < ONE_WANTS) return;
+/* The word is stored once more, in the one order that seq_cst operations have: it has the two of
+ * who wants a frame, too. */
+void enter_and_wake_wanting(shard *in, _Atomic uint64_t *word) {
+    atomic_store(word, 0);
+    if (!is_frame_wanted(in)) return;
     pthread_mutex_lock(&in->lock);
     pthread_cond_broadcast(&in->call_over);
     pthread_mutex_unlock(&in->lock);

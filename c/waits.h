@@ -58,7 +58,8 @@ void end_to_want(struct shard *in);
 /* By who is in a shard, where a frame may be had now: wakes who wants one. */
 void wake_wanting(struct shard *in);
 
-/* The same by who has given up a hold, and is in no shard: seldom, so that a hit does not jump. */
-__attribute__((cold)) void enter_and_wake_wanting(struct shard *in);
+/* The same by who has given up a hold, whose word is 0, and is in no shard: it is seldom called, so
+ * that a hit does not jump. */
+__attribute__((cold)) void enter_and_wake_wanting(struct shard *in, _Atomic uint64_t *word);
 
 #endif
