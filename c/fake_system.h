@@ -21,7 +21,7 @@
 #include <time.h>
 #include <unistd.h>
 
-/* Tests of threads make this many times fewer rounds: under helgrind, which is slow (c/check). */
+/* Long tests make this many times fewer rounds: under helgrind, which is slow (c/check). */
 #ifndef FEWER
 #define FEWER 1
 #endif

@@ -298,8 +298,11 @@ static void test_known_pins(void) {
         for (size_t at = 0; at < MANY_PINS; at++)
             OK(warm_pin_zeroed(&handle, page_at(at % 100), &slots[at]));
         MUST(its->pins == MANY_PINS && its->known_count == KNOWN_PINS);
-        for (size_t at = 0; at < MANY_PINS; at++)
-            OK(warm_unpin(&handle, slots[at * steps[round] % MANY_PINS]));
+        for (size_t at = 0; at < MANY_PINS; at++) {
+            warm_slot *slot = &slots[at * steps[round] % MANY_PINS];
+            slot->hit ^= (uint16_t)(at % 2); /* as that of another pin of the page */
+            OK(warm_unpin(&handle, *slot));
+        }
         MUST(its->pins == 0 && its->known_count == 0);
     }
     OK(warm_abandon(&handle));

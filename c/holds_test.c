@@ -273,7 +273,7 @@ static size_t without_record(size_t frames, size_t distance) {
 /* Pages that follow each other have records: of one in fifty at most is there none, in shards of
  * each size. */
 static void test_spreading(void) {
-    for (size_t frames = 1; frames <= 65536; frames *= 2) {
+    for (size_t frames = 1; frames <= 65536 / FEWER; frames *= 2) {
         for (size_t distance = 1; distance <= 128; distance *= 2)
             MUST(without_record(frames, distance) <= frames / 50 + 2);
     }
@@ -586,7 +586,7 @@ static void test_many_words(void) {
     OK(open_with(&handles[0], 1, 1, FAKE_FRAMES, devices, FAKE_DEVICES));
     for (int by = 1; by < 5; by++) OK(warm_attach(&handles[0], &handles[by]));
     for (uint64_t no = 0; no < FAKE_FRAMES; no++) pin_twice(&handles[0], no);
-    for (size_t words = 1; words < 5 * HOLDS; words++) {
+    for (size_t words = 1; words < 5 * HOLDS; words += 1 + FEWER / 8) {
         for (size_t pages = 1; pages <= words && pages < FAKE_FRAMES; pages++)
             hold_words(handles, words, pages);
     }

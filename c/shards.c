@@ -378,13 +378,13 @@ static void give_slot(opened *its, const shard *in, const load *it, warm_slot *s
     if (its->known_count < KNOWN_PINS) its->known[its->known_count++] = *slot;
 }
 
-/* The latest pins are looked at first: they are often taken back first. */
+/* The latest pins are looked at first: they are often taken back first. Two in one frame are of the
+ * same page. */
 static void forget_pin(opened *its, warm_slot slot) {
     unsigned at = its->known_count;
+    uint64_t place = place_of_slot(&slot);
     its->pins--;
-    while (at > 0 && (its->known[at - 1].generation != slot.generation ||
-                         place_of_slot(&its->known[at - 1]) != place_of_slot(&slot)))
-        at--;
+    while (at > 0 && place_of_slot(&its->known[at - 1]) != place) at--;
     if (at > 0) its->known[at - 1] = its->known[--its->known_count];
 }
 

@@ -309,7 +309,7 @@ static void test_skipped_victims(void) {
 
 /* ---- latches ---- */
 
-enum { THREADS = 4, ROUNDS = 2000 / FEWER, LATCHED = 8 };
+enum { THREADS = 4, LATCHED = 8, ROUNDS = 2000 / FEWER / LATCHED * LATCHED };
 
 /* Each page has a latch, which before_write tries and after_write releases. */
 static pthread_mutex_t latches[LATCHED];
