@@ -1,28 +1,20 @@
 -- What a refused call of an engine leaves of what a handle holds.
-use Rattle.std.proofs.Common.{ℕ, List, Err, refl, sym, subst, arith}
-use Rattle.std.proofs.lemmas.List.{length-map}
-use Rattle.warm_pool.specs.declared.fault.PoolFault.{PoolFault}
-use Rattle.warm_pool.specs.declared.fault.PoolFault.TheVariants.{NoDevice}
+use Rattle.std.proofs.Common.{ℕ, List, Err, refl, sym, subst}
 use Rattle.warm_pool.specs.Forgetting.{ForgetRefused}
-use Rattle.warm_pool.specs.Outcomes.{FlushDeviceFails, RetireFails, UnreadPinFails, WritePageFails, WriteSomeFails}
-use Rattle.warm_pool.specs.View.{device_view}
+use Rattle.warm_pool.specs.Outcomes.{FlushDeviceFails, UnreadPinFails, WritePageFails, WriteSomeFails}
 use Rattle.warm_gossip.specs.declared.call.Call.TheVariants.{Pin}
 use Rattle.warm_gossip.specs.declared.call.Reply.TheVariants.{Refused}
 use Rattle.warm_gossip.specs.declared.fault.NodeFault.{NodeFault}
 use Rattle.warm_gossip.specs.declared.fault.NodeFault.TheVariants.{Memory, Pool, StaleSlot}
 use Rattle.warm_gossip.specs.Clauses.{Goes, OfPool}
 use Rattle.warm_gossip.specs.Engine.{KeepsKnown}
-use Rattle.warm_gossip.proofs.EngineLemmas.{same_view}
 use Rattle.warm_c.specs.declared.open_node.OpenNode.{OpenNode}
 use Rattle.warm_c.specs.declared.status.Refusal.TheVariants.{Node}
 use Rattle.warm_c.specs.declared.values.PinnedSlot.{PinnedSlot}
-use Rattle.warm_c.specs.declared.values.WarmDevice.{WarmDevice}
 use Rattle.warm_c.specs.declared.values.WarmPage.{WarmPage}
 use Rattle.warm_c.specs.Calls.{SameDevices}
-use Rattle.warm_c.specs.Devices.{KeepsHistory, MayStand, Replaces, devices_after, made_device}
 use Rattle.warm_c.specs.Engine.{FlushesDevice, ForgetsPages, NodeWritesBackPage, PinsZeroed, SameButPool, WritesSome}
 use Rattle.warm_c.specs.Filling.{PinsFilled}
-use Rattle.warm_c.specs.Handles.{DescriptorsDiffer}
 use Rattle.warm_c.specs.Values.{page_of_c}
 
 -- the pool alone has changed
@@ -78,20 +70,3 @@ filled_refused old new page bytes slot (Pool why) same step fails =
     (fails.cause.1, (step, same), fails.devices, fails.frames, record { unread = fails.unread; unflushed = fails.unflushed }, refl)
 filled_refused old new page bytes slot Memory same step fails = absurd fails
 filled_refused old new page bytes slot StaleSlot same step fails = absurd fails
-
--- a device that is not retired
-pub retire_refused : (dev : ℕ) (d : WarmDevice) (old new : OpenNode) (why : PoolFault)
-    → MayStand dev d old → DescriptorsDiffer (devices_after dev d old) → KeepsHistory old new
-    → SameDevices old new
-    → RetireFails dev (made_device d old) old.node.pool why new.node.pool
-    → Replaces dev d old (Err (Node (Pool why))) new
-retire_refused dev d old new NoDevice may apart keeps same fails = (
-  (
-    λ stands there. omega (arith, there, fails.cause.0, length-map old.node.pool.devices device_view),
-    same_view old.node new.node (record { id = keeps.id; history = keeps.history }) fails.cause.1,
-    same,
-  ),
-  fails.elsewhere,
-)
-retire_refused dev d old new why may apart keeps same fails =
-    ((may, apart, fails.cause, fails.stopped, keeps, same), fails.elsewhere)
