@@ -21,7 +21,8 @@
 #include <time.h>
 #include <unistd.h>
 
-/* Long tests make this many times fewer rounds: under helgrind, which is slow (c/check). */
+/* Long tests make this many times fewer rounds, and what one thread does for long is left out:
+ * under helgrind, which is slow (c/check). */
 #ifndef FEWER
 #define FEWER 1
 #endif
