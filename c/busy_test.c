@@ -199,14 +199,16 @@ static void end_beside_a_hold(int call) {
 static void beside_a_hold(size_t shards, int call, bool abandons) {
     warm *holder = &callers[2].handle;
     warm_slot slot;
-    int before = orders;
+    int before = orders, stored = stored_in_order;
     begin_beside_a_hold(shards, holder, &slot);
     MUST(orders == before + 1 && give_up(holder, slot, false) == 0);
+    MUST(stored_in_order == stored + !system_orders);
     slot = hold_page(holder, held_no);
     begin(1, call, page_at(5));
     until_waiting(1);
     not_over(1);
     MUST(orders == before + 1 + system_orders && give_up(holder, slot, abandons) == 1);
+    MUST(stored_in_order == stored + 1 + !system_orders);
     end_beside_a_hold(call);
 }
 

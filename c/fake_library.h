@@ -55,7 +55,11 @@ static void must(bool holds, const char *what, int line) {
 #define pthread_cond_timedwait test_cond_timedwait
 #define clock_gettime test_clock
 #define syscall test_syscall
+#pragma push_macro("atomic_store")
+#undef atomic_store
+#define atomic_store(at, value) store_in_order(at, value)
 #include "waits.c"
+#pragma pop_macro("atomic_store")
 #include "reads.c"
 #include "writes.c"
 #include "holds.c"

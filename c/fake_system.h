@@ -21,7 +21,8 @@
 #include <time.h>
 #include <unistd.h>
 
-/* Long tests make this many times fewer rounds: under helgrind, which is slow (c/check). */
+/* Long tests make this many times fewer rounds, and what one thread does for long is left out:
+ * under helgrind, which is slow (c/check). */
 #ifndef FEWER
 #define FEWER 1
 #endif
@@ -251,6 +252,15 @@ static long test_syscall(long number, int command, int flags, int core) {
     orders++;
     errno = ENOSYS;
     return system_orders ? syscall(number, command, flags, core) : -1;
+}
+
+/* How often this thread has stored a word in the one order of all seq_cst operations. What that is
+ * for, no test sees: checks/holds/model.py does. */
+static _Thread_local int stored_in_order;
+
+static inline void store_in_order(_Atomic uint64_t *at, uint64_t value) {
+    atomic_store(at, value);
+    stored_in_order++;
 }
 
 static int test_fsync(int fd) {

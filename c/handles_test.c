@@ -365,12 +365,12 @@ int main(void) {
     test_options();
     test_options_of_devices();
     test_settings();
-    test_opening();
+    if (FEWER == 1) test_opening();
     test_closing();
     test_abandoning();
     test_abandoning_all_holds();
     test_ended_thread();
-    test_abandoning_many();
+    if (FEWER == 1) test_abandoning_many();
     test_known_pins();
     test_attaching();
     puts("handles_test: as expected");

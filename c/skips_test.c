@@ -388,7 +388,7 @@ static void test_latches(void) {
 }
 
 int main(void) {
-    test_skipping();
+    if (FEWER == 1) test_skipping();
     test_skipping_portions();
     test_skips_and_failures();
     test_counted_failures();

@@ -793,7 +793,7 @@ int main(void) {
     test_closing_after_failure();
     test_turns_of_portions();
     test_turns_in_shard();
-    test_stuck_victims();
+    if (FEWER == 1) test_stuck_victims();
     test_failing_read();
     puts("syncs_test: as expected");
     return 0;
