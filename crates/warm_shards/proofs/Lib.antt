@@ -29,3 +29,4 @@ pub mod LawsHold
 pub mod Examples
 pub mod PartEntries
 pub mod TakingIn
+pub mod VisitExamples

@@ -8,3 +8,4 @@ pub mod Through
 pub mod Forming
 pub mod Laws
 pub mod PartLaws
+pub mod Visits
