@@ -9,3 +9,5 @@ pub mod Forming
 pub mod Laws
 pub mod PartLaws
 pub mod Visits
+pub mod VisitLaws
+pub mod VisitParts

@@ -28,9 +28,12 @@ mod pool_calls;
 mod shards;
 mod splitting;
 mod through;
+mod visit;
+mod visiting;
 
 pub use answers::fill_digests;
 pub use fault::{ShardsError, ShardsFault};
 pub use parts::{entries_for, part_of_message, sender_of};
 pub use pool_calls::ShardSlot;
+pub use visit::Visit;
 pub use shards::{Shards, frames_of_shard, is_shard_count, shard_of};

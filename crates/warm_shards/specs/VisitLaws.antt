@@ -1,0 +1,133 @@
+-- The laws of visits: alone a visit is the call of the one node, and among others either way the
+-- whole has had the whole.
+use Rattle.std.specs.Prelude.{◌≡◌, ℕ, ◌%◌, ◌<◌, List, [], ◌∷◌, length, slice_set, Some, None}
+use Rattle.std.specs.List.{AllByRecursion}
+use Rattle.warm_stamps.specs.declared.Reference.{Reference}
+use Rattle.warm_history.specs.ReferenceSets.{ReferenceSet, set_of_list, ◌∪◌}
+use Rattle.warm_history.specs.Histories.{HistoryView, history, references_of}
+use Rattle.warm_frames.specs.declared.message.Message.{Message}
+use Rattle.warm_machine.specs.declared.operation.Operation.{Operation}
+use Rattle.warm_machine.specs.Runs.{Runs}
+use Rattle.warm_peer.specs.Answers.{refs_in}
+use Rattle.warm_pool.specs.declared.fault.PoolFault.TheVariants.{Fault}
+use Rattle.warm_gossip.specs.declared.call.Call.TheVariants.{Absorb, Horizon, Offer, Receive}
+use Rattle.warm_gossip.specs.declared.call.Reply.TheVariants.{Answers, Done, Kept, Sent}
+use Rattle.warm_gossip.specs.declared.fault.NodeFault.{NodeFault}
+use Rattle.warm_gossip.specs.declared.fault.NodeFault.TheVariants.{Memory, Pool}
+use Rattle.warm_gossip.specs.State.{NodeState}
+use Rattle.warm_shards.specs.Clauses.{JoinsAll, KeepPools, TakesInFirst, Together}
+use Rattle.warm_shards.specs.Shards.{AreShards, IsShardCount, shard_at, shard_of, whole}
+use Rattle.warm_shards.specs.Through.{OfEach, ShardSettles, WriteBackStops}
+use Rattle.warm_shards.specs.Visits.{Ask, Enters, Errand, Said, VisitState, absorb_visit}
+use Rattle.warm_shards.specs.Visits.{answers_of, at_horizon, copy_visit, given, giving, join_visit}
+use Rattle.warm_shards.specs.Visits.{joined, kept_of, offer_of, offer_visit, raise_visit}
+use Rattle.warm_shards.specs.Visits.{receive_visit, sending, write_back_visit}
+
+-- Nobody interrupts
+
+-- a visit, and shards that it alone enters
+pub record Alone : Type 0 where
+  pub visit : VisitState
+  pub shards : List NodeState
+
+abbrev pub alone : VisitState → List NodeState → Alone
+alone v shards = record { visit = v; shards = shards }
+
+abbrev pub EntersAlone : Alone → Errand → Said → Alone → Type 0
+EntersAlone s e said t =
+    Enters s.visit (shard_at s.shards e.shard) e said t.visit (shard_at t.shards e.shard)
+    × (t.shards ≡ slice_set s.shards e.shard (shard_at t.shards e.shard))
+
+-- the visit enters one shard after the other; so it becomes the second one, and the shards these
+abbrev pub GoesAlone : VisitState → List NodeState → VisitState → List NodeState → Type 0
+GoesAlone v old w new = (entries : List (Operation Errand Said))
+    × Runs EntersAlone (alone v old) entries (alone w new)
+
+-- How a visit that nobody interrupts ends: all shards together have gone so; or it was refused for
+-- memory, and the first shards have taken these in.
+pub record EndsAlone (goes : VisitState → List NodeState → Type 0) (S : ReferenceSet)
+    (old : List NodeState) (w : VisitState) (new : List NodeState) : Type 0 where
+  pub goes : w.fault ≡ None → goes w new
+  pub fault : (why : NodeFault) → w.fault ≡ Some why → (why ≡ Memory) × TakesInFirst old S new
+  pub pools : KeepPools old new
+  pub shards : AreShards new
+
+-- whenever shards have been visited so, from the first errand to the last one
+abbrev pub Whenever : (ℕ → ℕ → VisitState)
+    → (List NodeState → VisitState → List NodeState → Type 0) → Type 0
+Whenever visit so = (old new : List NodeState) (w : VisitState) → AreShards old
+    → GoesAlone (visit (shard_at old 0).id (length old)) old w new → w.plan ≡ [] → so old w new
+
+-- A visit that nobody interrupts is the call of the one node.
+pub record AloneIsOneNode : Type 0 where
+  pub absorbs : (batch : List Reference)
+      → Whenever (λ id n. absorb_visit id n batch) (λ old. EndsAlone
+      (λ w new. Together old (Absorb batch) Done new) (set_of_list batch) old)
+  pub raises : (time : ℕ) → Whenever (λ id n. raise_visit id n time) (λ old w new.
+      (horizon : ℕ) × (kept_of w.made ≡ Some horizon) × AreShards new
+      × Together old (Horizon time) (Kept horizon) new × KeepPools old new)
+  pub offers : Whenever offer_visit (λ old. EndsAlone
+      (λ w new. Together old Offer (Sent (offer_of w.id w.made)) new) (set_of_list []) old)
+  pub receives : (message : Message) → Whenever (λ id n. receive_visit id n message) (λ old.
+      EndsAlone
+      (λ w new. Together old (Receive message) (Answers (answers_of w.made w.after)) new)
+      (refs_in message) old)
+  pub joins : (h : HistoryView) → Whenever (λ id n. join_visit id n h) (λ old. EndsAlone
+      (λ w new. JoinsAll old h new) (references_of h) old)
+  pub copies : Whenever copy_visit (λ old. EndsAlone
+      (λ w new. w.made ≡ joined (whole old)) (set_of_list []) old)
+  pub writes : Whenever write_back_visit (λ old w new.
+      (w.fault ≡ None → OfEach ShardSettles old new)
+      × ((why : NodeFault) → w.fault ≡ Some why → (why ≡ Pool Fault) × WriteBackStops old new))
+
+-- Others come between
+
+-- an entry into a shard that is in any state
+abbrev pub EntersAny : VisitState → Errand → Said → VisitState → Type 0
+EntersAny v e said w = (old new : NodeState) × Enters v old e said w new
+
+-- what an errand gave its shard, and those of a visit all shards together
+abbrev pub gave_errand : Ask → Said → ReferenceSet
+gave_errand (giving S) (given horizon) = S
+gave_errand ask said = set_of_list []
+
+abbrev pub gave_all : List (Operation Errand Said) → ReferenceSet
+gave_all [] = set_of_list []
+gave_all (e ∷ es) = gave_errand e.call.ask e.reply ∪ gave_all es
+
+-- Once such a visit is over, its errands together gave these references, whatever others did
+-- between two of them.
+abbrev pub GivesAll : (ℕ → VisitState) → ReferenceSet → Type 0
+GivesAll visit S = (count : ℕ) (entries : List (Operation Errand Said)) (w : VisitState)
+    → IsShardCount count → Runs EntersAny (visit count) entries w → w.plan ≡ [] → w.fault ≡ None
+    → (R : ReferenceSet) → history (R ∪ gave_all entries) ≡ history (R ∪ S)
+
+-- Either way the whole has had the whole.
+pub record WholeIsGiven : Type 0 where
+  pub absorbs : (id : ℕ) (batch : List Reference)
+      → GivesAll (λ n. absorb_visit id n batch) (set_of_list batch)
+  pub raises : (id time : ℕ) → GivesAll (λ n. raise_visit id n time) (at_horizon time)
+  pub receives : (id : ℕ) (message : Message)
+      → GivesAll (λ n. receive_visit id n message) (refs_in message)
+  pub joins : (id : ℕ) (h : HistoryView) → GivesAll (λ n. join_visit id n h) (references_of h)
+
+-- Whose pages
+
+-- what is asked of a shard is of its pages and buckets alone
+abbrev pub IsOwnAsk : ℕ → ℕ → Ask → Type 0
+IsOwnAsk count i (giving S) = AllByRecursion (λ r. shard_of count r.page ≡ i) S.given
+IsOwnAsk count i (sending bucket after) = bucket % count ≡ i
+IsOwnAsk count i ask = Unit {0}
+
+abbrev pub AreOwnErrands : ℕ → List Errand → Type 0
+AreOwnErrands count plan =
+    AllByRecursion (λ e. (e.shard < count) × IsOwnAsk count e.shard e.ask) plan
+
+-- each errand of a visit is at a shard, and of its pages alone, and those of what it becomes are so
+pub record ErrandsAreOwn : Type 0 where
+  pub absorbs : (id count : ℕ) (batch : List Reference) → IsShardCount count
+      → AreOwnErrands count (absorb_visit id count batch).plan
+  pub receives : (id count : ℕ) (message : Message) → IsShardCount count
+      → AreOwnErrands count (receive_visit id count message).plan
+  pub stays : (v w : VisitState) (e : Errand) (said : Said) → IsShardCount v.count
+      → AreOwnErrands v.count v.plan → EntersAny v e said w → AreOwnErrands w.count w.plan
