@@ -30,3 +30,5 @@ pub mod Examples
 pub mod PartEntries
 pub mod TakingIn
 pub mod VisitExamples
+pub mod VisitPlans
+pub mod VisitLemmas

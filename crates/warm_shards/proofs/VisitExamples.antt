@@ -85,7 +85,7 @@ takes_entries : Takes taking 1 (giving even) [] (given 5) (begun 7 2 [] (answere
 takes_entries = refl
 
 refuses_entries : Takes taking 1 (giving even) [] (refused Memory)
-    (record (begun 7 2 [] (answered []) ends) { fault = Some Memory })
+    (record taking { fault = Some Memory })
 refuses_entries = refl
 
 -- a request for buckets 0 and 3: both shards are raised, and each sends the bucket of its own

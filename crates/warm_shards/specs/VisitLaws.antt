@@ -20,8 +20,8 @@ use Rattle.warm_shards.specs.Shards.{AreShards, IsShardCount, shard_at, shard_of
 use Rattle.warm_shards.specs.Through.{OfEach, ShardSettles, WriteBackStops}
 use Rattle.warm_shards.specs.Visits.{Ask, Enters, Errand, Said, VisitState, absorb_visit}
 use Rattle.warm_shards.specs.Visits.{answers_of, at_horizon, copy_visit, given, giving, join_visit}
-use Rattle.warm_shards.specs.Visits.{joined, kept_of, offer_of, offer_visit, raise_visit}
-use Rattle.warm_shards.specs.Visits.{receive_visit, sending, write_back_visit}
+use Rattle.warm_shards.specs.Visits.{joined, kept_of, next_shard, offer_of, offer_visit}
+use Rattle.warm_shards.specs.Visits.{raise_visit, receive_visit, sending, write_back_visit}
 
 -- Nobody interrupts
 
@@ -52,11 +52,12 @@ pub record EndsAlone (goes : VisitState → List NodeState → Type 0) (S : Refe
   pub pools : KeepPools old new
   pub shards : AreShards new
 
--- whenever shards have been visited so, from the first errand to the last one
+-- whenever shards have been visited so, until no errand was left, or one was refused
 abbrev pub Whenever : (ℕ → ℕ → VisitState)
     → (List NodeState → VisitState → List NodeState → Type 0) → Type 0
 Whenever visit so = (old new : List NodeState) (w : VisitState) → AreShards old
-    → GoesAlone (visit (shard_at old 0).id (length old)) old w new → w.plan ≡ [] → so old w new
+    → GoesAlone (visit (shard_at old 0).id (length old)) old w new → next_shard w ≡ None
+    → so old w new
 
 -- A visit that nobody interrupts is the call of the one node.
 pub record AloneIsOneNode : Type 0 where

@@ -8,8 +8,8 @@ use Rattle.warm_gossip.specs.declared.fault.NodeFault.{NodeFault}
 use Rattle.warm_shards.specs.declared.visit.Work.{Work}
 use Rattle.warm_shards.specs.declared.visit.Work.TheVariants.{Absorb, Raise}
 use Rattle.warm_shards.specs.Shards.{IsShardCount}
-use Rattle.warm_shards.specs.Visits.{Errand, Made, VisitState, at_horizon, at_shard, ends, give_part}
-use Rattle.warm_shards.specs.Visits.{giving, nothing, raised}
+use Rattle.warm_shards.specs.Visits.{Errand, Made, VisitState, at_horizon, at_shard, ends}
+use Rattle.warm_shards.specs.Visits.{give_part, giving, nothing, raised}
 
 -- the part of the shard of this number
 abbrev pub nth_part : List (Vec Reference) → ℕ → List Reference
@@ -44,6 +44,14 @@ visit_of id count shard work kept fault = record {
   after = ends;
   fault = fault;
 }
+
+-- how many errands are left to run: none, where one was refused
+abbrev pub left_of : List Errand → Option NodeFault → ℕ
+left_of plan None = length plan
+left_of plan (Some why) = 0
+
+abbrev pub errands_left : VisitState → ℕ
+errands_left v = left_of v.plan v.fault
 
 -- the first part from this one on that is not empty; or how many there are
 pub record IsFirstPart (parts : List (Vec Reference)) (from first : ℕ) : Type 0 where

@@ -76,7 +76,8 @@ pub data After : Type 0 where
   compares : List (List ℕ) → After
   requests : Message → After
 
--- A visit of a replica of this number, in so many shards. A refused one has no errand left.
+-- A visit of a replica of this number, in so many shards. Where a shard has refused its errand,
+-- there is a fault, and the errand is still the next one.
 pub record VisitState : Type 0 where
   pub id : ℕ
   pub count : ℕ
@@ -178,23 +179,24 @@ Takes v i (sending bucket after) rest (sent message true) w =
 Takes v i ask rest (sent message more) w = w ≡ onward v rest (with_message v.made message)
 Takes v i ask rest (copied h) w = w ≡ onward v rest (with_history v.made h)
 Takes v i ask rest done w = w ≡ onward v rest v.made
-Takes v i ask rest (refused why) w = w ≡ record v { plan = []; fault = Some why }
+Takes v i ask rest (refused why) w = w ≡ record v { fault = Some why }
 
 -- One entry: the node says something to the next errand of the visit, which takes it.
 pub record Enters (v : VisitState) (old : NodeState) (e : Errand) (said : Said) (w : VisitState)
     (new : NodeState) : Type 0 where
+  pub ready : v.fault ≡ None
   pub rest : List Errand
   pub next : v.plan ≡ e ∷ rest
   pub says : NodeSays old e.ask said new
   pub takes : Takes v e.shard e.ask rest said w
 
--- the shard of the next errand
-abbrev pub shard_next : List Errand → Option ℕ
-shard_next [] = None
-shard_next (e ∷ rest) = Some e.shard
+-- the shard of the next errand, unless one was refused
+abbrev pub shard_next : List Errand → Option NodeFault → Option ℕ
+shard_next (e ∷ rest) None = Some e.shard
+shard_next plan fault = None
 
 abbrev pub next_shard : VisitState → Option ℕ
-next_shard v = shard_next v.plan
+next_shard v = shard_next v.plan v.fault
 
 -- The calls of the whole
 

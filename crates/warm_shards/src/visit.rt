@@ -2,9 +2,9 @@
 //! errand, and enters that with one step.
 //!
 //! Who has the shards drives it: a loop over nodes, a thread by its turns, or C by its locks.
-ghost use Rattle.std.specs.Prelude.{◌≡◌, ◌≢◌, ◌<◌, ◌≤◌, [], length, IfOk, IfSome, Some};
+ghost use Rattle.std.specs.Prelude.{◌≡◌, ◌≢◌, ◌<◌, ◌≤◌, length, IfOk, IfSome, None, Some};
 ghost use Rattle.warm_shards.specs.Shards.{IsShardCount};
-ghost use Rattle.warm_shards.specs.VisitParts.{IsFirstPart, earlier};
+ghost use Rattle.warm_shards.specs.VisitParts.{IsFirstPart, earlier, errands_left};
 ghost use Rattle.warm_shards.specs.Visits.{Enters, Errand, Said, absorb_visit, kept_of};
 ghost use Rattle.warm_shards.specs.Visits.{next_shard, raise_visit};
 
@@ -114,11 +114,15 @@ impl Visit {
         }
     }
 
-    /// The number of the shard of its next errand; `None` where it is over. Allocation-free.
+    /// The number of the shard of its next errand; `None` where no errand is left, or a shard has
+    /// refused one. Allocation-free.
     pub fn next(&self) -> Option<usize>
         ensures value { result ≡ next_shard self.now }
         ensures below { IfSome result (λ shard. shard < self.now.count) }
     {
+        if let Some(_fault) = self.fault {
+            return None;
+        }
         if self.shard < self.count {
             return Some(self.shard);
         }
@@ -143,12 +147,12 @@ impl Visit {
     }
 
     /// Runs the next errand, at the node of the shard that [`Visit::next`] names. Where the node
-    /// refuses it, the visit is over.
+    /// refuses it, it is still the next one.
     pub fn enter<D: PageDevice>(&mut self, node: &mut Node<D>)
-        requires { self.old.plan ≢ [] }
+        requires { next_shard self.old ≢ None }
         ensures entered { (e : Errand) × (said : Said) × (next_shard self.old ≡ Some e.shard)
             × Enters self.old node.old e said self.new node.new }
-        ensures shorter { length self.new.plan < length self.old.plan }
+        ensures shorter { errands_left self.new < errands_left self.old }
         ensures count { self.new.count ≡ self.old.count }
     {
         let shard = self.shard;
@@ -156,7 +160,6 @@ impl Visit {
             Work::Absorb(parts) => {
                 if let Err(why) = node.absorb(parts[shard].as_slice()) {
                     self.fault = Some(why);
-                    self.shard = self.count;
                     return;
                 }
                 self.shard = first_part(parts, shard + 1);

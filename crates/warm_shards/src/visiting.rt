@@ -1,5 +1,5 @@
 //! Calls of the whole over nodes that nobody else has: a visit enters one after the other.
-ghost use Rattle.std.specs.Prelude.{◌≡◌, [], length, IfErr, OnOk};
+ghost use Rattle.std.specs.Prelude.{◌≡◌, length, IfErr, None, OnOk};
 ghost use Rattle.warm_history.specs.ReferenceSets.{set_of_list};
 ghost use Rattle.warm_gossip.specs.declared.call.Call.TheVariants.{Absorb, Horizon};
 ghost use Rattle.warm_gossip.specs.declared.call.Reply.TheVariants.{Done, Kept};
@@ -7,6 +7,7 @@ ghost use Rattle.warm_gossip.specs.declared.fault.NodeFault.TheVariants.{Memory}
 ghost use Rattle.warm_shards.specs.Clauses.{KeepPools, TakesInFirst, Together};
 ghost use Rattle.warm_shards.specs.Shards.{AreShards};
 ghost use Rattle.warm_shards.specs.VisitLaws.{GoesAlone};
+ghost use Rattle.warm_shards.specs.Visits.{next_shard};
 
 use crate::visit::Visit;
 use std::alloc::Global;
@@ -18,7 +19,7 @@ use warm_stamps::Reference;
 pub(crate) fn go_through<D: PageDevice>(nodes: &mut Vec<Node<D>>, visit: &mut Visit)
     requires { length nodes.old.items ≡ visit.old.count }
     ensures gone { GoesAlone visit.old nodes.old.items visit.new nodes.new.items }
-    ensures over { visit.new.plan ≡ [] }
+    ensures over { next_shard visit.new ≡ None }
 {
     while let Some(shard) = visit.next() {
         visit.enter(&mut nodes[shard]);
