@@ -32,3 +32,4 @@ pub mod TakingIn
 pub mod VisitExamples
 pub mod VisitPlans
 pub mod VisitLemmas
+pub mod VisitEntries

@@ -31,7 +31,7 @@ once n time = record { page = page n; hist = Once (at time) }
 
 -- Of two shards, shard 0 has the odd pages of device 1, and shard 1 the even ones. Each is given
 -- its own references, in order.
-absorbs_parts : (absorb_visit 7 2 (reference 2 ∷ reference 3 ∷ reference 5 ∷ [])).plan
+pub absorbs_parts : (absorb_visit 7 2 (reference 2 ∷ reference 3 ∷ reference 5 ∷ [])).plan
     ≡ at_shard 0 (giving (set_of_list (reference 3 ∷ reference 5 ∷ [])))
     ∷ at_shard 1 (giving (set_of_list (reference 2 ∷ []))) ∷ []
 absorbs_parts = refl

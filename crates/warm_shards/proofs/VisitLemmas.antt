@@ -1,30 +1,30 @@
 -- What a visit that nobody interrupts does to all shards together: they take in what its errands
 -- gave.
-use Rattle.std.proofs.Common.{◌≡◌, ℕ, ◌<◌, ◌%◌, List, [], ◌∷◌, length, map, set, refl, sym, ap, subst, ◌∙◌, arith}
+use Rattle.std.proofs.Common.{◌≡◌, ℕ, ◌<◌, ◌%◌, List, [], ◌∷◌, ◌++◌, length, map, set, get_or, refl, sym, ap, subst, ◌∙◌, arith}
 use Rattle.std.specs.Prelude.{Bool, None, Some, true, false}
 use Rattle.std.specs.List.{AllByRecursion}
 use Rattle.std.proofs.Math.Nat.{max-zero}
-use Rattle.std.proofs.lemmas.List.{append-nil}
+use Rattle.std.proofs.lemmas.List.{append-nil, get_or-set_same}
 use Rattle.warm_history.specs.ReferenceSets.{ReferenceSet, set_of_list, ◌∪◌}
 use Rattle.warm_history.specs.Histories.{IsHistory, history, references_of}
 use Rattle.warm_history.proofs.HistoryLemmas.{IsHistory-history}
 use Rattle.warm_history.proofs.JoinLemmas.{both_assoc, history_first, raised_to_no_later}
 use Rattle.warm_machine.specs.declared.operation.Operation.{Operation}
-use Rattle.warm_machine.specs.Runs.{Runs}
+use Rattle.warm_machine.specs.Runs.{Runs, operation}
 use Rattle.warm_pool.specs.View.{view_of}
 use Rattle.warm_pool.specs.Keeping.{KeepsBytes}
 use Rattle.warm_gossip.specs.declared.fault.NodeFault.TheVariants.{Memory, Pool, StaleSlot}
 use Rattle.warm_gossip.specs.State.{NodeState, NodeView, node_view}
 use Rattle.warm_shards.specs.Clauses.{KeepPools}
-use Rattle.warm_shards.specs.Shards.{shard_at, whole}
-use Rattle.warm_shards.specs.VisitLaws.{Alone, EntersAlone, alone, gave_all, gave_errand}
+use Rattle.warm_shards.specs.Shards.{no_shard, shard_at, whole}
+use Rattle.warm_shards.specs.VisitLaws.{Alone, EntersAlone, GoesAlone, alone, gave_all, gave_errand}
 use Rattle.warm_peer.specs.Answers.{requested_buckets}
-use Rattle.warm_shards.specs.Visits.{After, Ask, Compares, Errand, IsGiven, IsSame, Made, NodeSays}
+use Rattle.warm_shards.specs.Visits.{After, Ask, Compares, Enters, Errand, IsGiven, IsSame, Made, NodeSays}
 use Rattle.warm_shards.specs.Visits.{Said, Takes, VisitState, answered, at_shard, compares, copied}
 use Rattle.warm_shards.specs.Visits.{copying, done, ends, gathered, given, giving, joined, nothing}
 use Rattle.warm_shards.specs.Visits.{offered, offering, raised, refused, requests, sending, sent}
 use Rattle.warm_shards.specs.Visits.{settling, writing}
-use Rattle.warm_shards.proofs.Calls.{keep_one}
+use Rattle.warm_shards.proofs.Calls.{keep_one, read_at}
 use Rattle.warm_shards.proofs.Keeping.{at_each}
 use Rattle.warm_shards.proofs.Taking.{one_takes}
 
@@ -192,3 +192,22 @@ runs_given old S s t (e ∷ es) some count here have (y, (enters, set_to), runs)
     let later : AreHere y.visit.count y.visit.plan = takes_here s.visit y.visit i e.call.ask enters.rest e.reply some here plan.1 plan.0.0 plan.0.1 enters.takes in
     subst (λ T. AreGiven old T t.shards) (both_assoc S G (gave_all es))
     (runs_given old (S ∪ G) y t es (omega (arith, stays, some)) (omega (arith, stays, count, next.pools.count, have.pools.count)) later next runs)
+
+-- ---- one entry more
+
+runs_more : {X C R : Type 0} (goes : X → C → R → X → Type 0) (x y z : X)
+    (es : List (Operation C R)) (e : Operation C R) → Runs goes x es y → goes y e.call e.reply z
+    → Runs goes x (es ++ e ∷ []) z
+runs_more goes x y z [] e runs next = (z, subst (λ w. goes w e.call e.reply z) (sym runs) next, refl)
+runs_more goes x y z (o ∷ os) e (mid, first, runs) next = (mid, first, runs_more goes mid y z os e runs next)
+
+pub gone_more : (v u w : VisitState) (old ns : List NodeState) (shard : ℕ) (n m d : NodeState)
+    (e : Errand) (said : Said) → shard < length ns → n ≡ get_or ns shard d → e.shard ≡ shard
+    → GoesAlone v old u ns → Enters u n e said w m → GoesAlone v old w (set ns shard m)
+gone_more v u w old ns shard n m d e said lt at same gone enters =
+    let here : n ≡ shard_at ns shard = read_at ns shard n d lt at in
+    let there : shard_at (set ns shard m) shard ≡ m = get_or-set_same ns shard m no_shard lt in
+    let entry : EntersAlone (alone u ns) e said (alone w (set ns shard m)) =
+    subst (λ i. Enters u (shard_at ns i) e said w (shard_at (set ns shard m) i) × (set ns shard m ≡ set ns i (shard_at (set ns shard m) i))) (sym same)
+    (subst (λ (x : NodeState). Enters u x e said w (shard_at (set ns shard m) shard)) here (subst (λ (x : NodeState). Enters u n e said w x) (sym there) enters), ap (set ns shard) (sym there)) in
+    (gone.0 ++ operation 0 e said ∷ [], runs_more EntersAlone (alone v old) (alone u ns) (alone w (set ns shard m)) gone.0 (operation 0 e said) gone.1 entry)

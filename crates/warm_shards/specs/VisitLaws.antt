@@ -45,9 +45,9 @@ GoesAlone v old w new = (entries : List (Operation Errand Said))
 
 -- How a visit that nobody interrupts ends: all shards together have gone so; or it was refused for
 -- memory, and the first shards have taken these in.
-pub record EndsAlone (goes : VisitState → List NodeState → Type 0) (S : ReferenceSet)
+pub record EndsAlone (well : VisitState → List NodeState → Type 0) (S : ReferenceSet)
     (old : List NodeState) (w : VisitState) (new : List NodeState) : Type 0 where
-  pub goes : w.fault ≡ None → goes w new
+  pub done : w.fault ≡ None → well w new
   pub fault : (why : NodeFault) → w.fault ≡ Some why → (why ≡ Memory) × TakesInFirst old S new
   pub pools : KeepPools old new
   pub shards : AreShards new

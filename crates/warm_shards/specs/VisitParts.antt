@@ -13,7 +13,7 @@ use Rattle.warm_shards.specs.Visits.{give_part, giving, nothing, raised}
 
 -- the part of the shard of this number
 abbrev pub nth_part : List (Vec Reference) → ℕ → List Reference
-nth_part parts i = (slice_index_or parts i (record { items = [] })).items
+nth_part parts i = slice_index_or (map (λ part. part.items) parts) i []
 
 -- the numbers of the shards from this one on
 abbrev pub shards_from : ℕ → ℕ → List ℕ
@@ -22,7 +22,7 @@ shards_from first count = range_with_len first (count - first)
 -- the errands from this shard on
 abbrev pub plan_from : ℕ → ℕ → Work → List Errand
 plan_from count first (Absorb parts) =
-    flat_map (λ i. give_part i 0 (nth_part parts i)) (shards_from first count)
+    flat_map (λ i. give_part i 0 (nth_part parts.items i)) (shards_from first count)
 plan_from count first (Raise time) =
     map (λ i. at_shard i (giving (at_horizon time))) (shards_from first count)
 
@@ -54,19 +54,19 @@ abbrev pub errands_left : VisitState → ℕ
 errands_left v = left_of v.plan v.fault
 
 -- the first part from this one on that is not empty; or how many there are
-pub record IsFirstPart (parts : List (Vec Reference)) (from first : ℕ) : Type 0 where
-  pub from : from ≤ first
+pub record IsFirstPart (parts : List (Vec Reference)) (start first : ℕ) : Type 0 where
+  pub from : start ≤ first
   pub below : first ≤ length parts
-  pub passed : (i : ℕ) → from ≤ i → i < first → nth_part parts i ≡ []
+  pub passed : (i : ℕ) → start ≤ i → i < first → nth_part parts i ≡ []
   pub there : first < length parts → nth_part parts first ≢ []
 
 -- the shard is one that has an errand, or the count
 abbrev pub IsPlace : ℕ → ℕ → Work → Type 0
-IsPlace count shard (Absorb parts) = (length parts ≡ count)
-    × (shard < count → nth_part parts shard ≢ [])
+IsPlace count shard (Absorb parts) = (length parts.items ≡ count)
+    × (shard < count → nth_part parts.items shard ≢ [])
 IsPlace count shard (Raise time) = Unit {0}
 
 pub record IsVisit (count shard : ℕ) (work : Work) : Type 0 where
-  pub count : IsShardCount count
-  pub shard : shard ≤ count
+  pub valid : IsShardCount count
+  pub within : shard ≤ count
   pub place : IsPlace count shard work
