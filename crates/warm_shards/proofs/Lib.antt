@@ -33,3 +33,4 @@ pub mod VisitExamples
 pub mod VisitPlans
 pub mod VisitLemmas
 pub mod VisitEntries
+pub mod VisitSweeps

@@ -4,6 +4,7 @@ use Rattle.std.specs.Prelude.{None, Option, Some}
 use Rattle.std.specs.Global.{Vec}
 use Rattle.std.proofs.lemmas.Bool.{cases_eq}
 use Rattle.warm_stamps.specs.declared.Reference.{Reference}
+use Rattle.warm_history.specs.ReferenceSets.{ReferenceSet}
 use Rattle.warm_pool.specs.Keeping.{KeepsBytes}
 use Rattle.warm_gossip.specs.declared.call.Call.TheVariants as call
 use Rattle.warm_gossip.specs.declared.call.Reply.TheVariants as reply
@@ -54,14 +55,14 @@ pub enters_refused : (id count shard : ℕ) (parts : Vec (Vec Reference)) (kept 
     (visit_of id count shard (Absorb parts) kept (Some why)) m
 enters_refused id count shard parts kept fault n m part why valid ready is goes bytes =
     let known = absorb_refused n m part why goes in
-    let S = record { horizon = 0; given = nth_part parts.items shard } in
+    let S : ReferenceSet = record { horizon = 0; given = nth_part parts.items shard } in
     (at_shard shard (giving S), refused why,
     next_here id count shard (Absorb parts) kept fault valid ready.there (no_fault fault ready.well),
     record {
       ready = ready.well;
       rest = plan_from count (shard + 1) (Absorb parts);
       next = absorb_here count shard parts ready.there (valid.place.1 ready.there);
-      says = subst (λ (w : NodeFault). NodeSays n (giving S) (refused w) m) (sym known.0) (known.1, bytes);
+      says = subst (λ (w : NodeFault). NodeSays n (giving S) (refused w) m) (sym known.0) (valid.place.1 ready.there, known.1, bytes);
       takes = refl;
     })
 
@@ -74,7 +75,7 @@ pub enters_absorbed : (id count shard first : ℕ) (parts : Vec (Vec Reference))
     → HasEntered (visit_of id count shard (Absorb parts) kept fault) n
     (visit_of id count first (Absorb parts) kept fault) m
 enters_absorbed id count shard first parts kept fault n m part valid ready is goes bytes from =
-    let S = record { horizon = 0; given = nth_part parts.items shard } in
+    let S : ReferenceSet = record { horizon = 0; given = nth_part parts.items shard } in
     (at_shard shard (giving S), given m.history.horizon,
     next_here id count shard (Absorb parts) kept fault valid ready.there (no_fault fault ready.well),
     record {

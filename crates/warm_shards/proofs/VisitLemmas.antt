@@ -46,7 +46,7 @@ same_given n m valid same = record {
 pub said_given : (n m : NodeState) (ask : Ask) (said : Said) → IsQuiet ask → IsHistory n.history
     → NodeSays n ask said m → IsGiven (gave_errand ask said) n m
 said_given n m (giving S) (given h) quiet valid says = says.0
-said_given n m (giving S) (refused Memory) quiet valid says = same_given n m valid says
+said_given n m (giving S) (refused Memory) quiet valid says = same_given n m valid says.1
 said_given n m offering (offered h table) quiet valid says = same_given n m valid says.2
 said_given n m offering (refused Memory) quiet valid says = same_given n m valid says
 said_given n m (sending b a) (sent message more) quiet valid says = same_given n m valid says.2

@@ -1,6 +1,6 @@
 -- A call of the whole as a visit: the errands that it still has, each at one shard, and what those
 -- before have made. Who has the shards lets it into that of its next errand, until it has none.
-use Rattle.std.specs.Prelude.{◌≡◌, ◌↔◌, ℕ, ◌%◌, ◌^◌, ◌<◌, ◌==◌, if◌then◌else◌, max, min, nat_eq}
+use Rattle.std.specs.Prelude.{◌≡◌, ◌≢◌, ◌↔◌, ℕ, ◌%◌, ◌^◌, ◌<◌, ◌==◌, if◌then◌else◌, max, min, nat_eq}
 use Rattle.std.specs.Prelude.{Bool, true, false, IsTrue, List, [], ◌∷◌, ◌++◌, map, filter}
 use Rattle.std.specs.Prelude.{Option, Some, None}
 use Rattle.std.specs.List.{flat_map, range_with_len}
@@ -108,9 +108,10 @@ pub record IsGiven (S : ReferenceSet) (old new : NodeState) : Type 0 where
 abbrev pub IsSame : NodeState → NodeState → Type 0
 IsSame old new = SameView old new × KeepsBytes old.pool new.pool
 
--- what a node says to what is asked of it, and what it is then
+-- What a node says to what is asked of it, and what it is then. It does not refuse a horizon alone.
 abbrev pub NodeSays : NodeState → Ask → Said → NodeState → Type 0
 NodeSays old (giving S) (given horizon) new = IsGiven S old new × (horizon ≡ new.history.horizon)
+NodeSays old (giving S) (refused Memory) new = (S.given ≢ []) × IsSame old new
 NodeSays old offering (offered horizon table) new = (horizon ≡ old.history.horizon)
     × (table ≡ digests_of (entries_of old.history)) × IsSame old new
 NodeSays old (sending bucket after) (sent message more) new =

@@ -3,6 +3,7 @@ use Rattle.warm_shards.specs.Visits.{next_shard}
 use Rattle.warm_shards.proofs.VisitPlans.{next_here}
 use Rattle.warm_shards.proofs.VisitExamples.{absorbs_parts}
 use Rattle.warm_shards.proofs.VisitLemmas.{runs_given}
+use Rattle.warm_shards.proofs.VisitSweeps.{raised_alone}
 use Rattle.warm_shards.proofs.visit.Visit.next.Goals as goal
 
 pub returns-then-self-clause-value : goal.returns-then-self-clause-value
