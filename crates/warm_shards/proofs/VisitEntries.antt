@@ -62,7 +62,7 @@ enters_refused id count shard parts kept fault n m part why valid ready is goes 
       ready = ready.well;
       rest = plan_from count (shard + 1) (Absorb parts);
       next = absorb_here count shard parts ready.there (valid.place.1 ready.there);
-      says = subst (λ (w : NodeFault). NodeSays n (giving S) (refused w) m) (sym known.0) (valid.place.1 ready.there, known.1, bytes);
+      says = subst (λ (w : NodeFault). NodeSays n (giving S) (refused w) m) (sym known.0) (valid.place.1 ready.there, (known.1, bytes));
       takes = refl;
     })
 

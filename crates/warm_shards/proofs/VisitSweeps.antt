@@ -1,5 +1,5 @@
 -- A visit that raises each shard, and that nobody interrupts.
-use Rattle.std.proofs.Common.{◌≡◌, inl, inr, ℕ, ◌+◌, ◌<◌, ◌≤◌, List, [], ◌∷◌, length, map, max, set, refl, sym, ap, subst, ◌∙◌, arith}
+use Rattle.std.proofs.Common.{◌≡◌, inl, inr, ℕ, ◌+◌, ◌-◌, ◌<◌, ◌≤◌, List, [], ◌∷◌, length, map, max, set, refl, sym, ap, subst, ◌∙◌, arith}
 use Rattle.std.specs.Prelude.{None, Some}
 use Rattle.std.specs.List.{range_with_len}
 use Rattle.std.proofs.lemmas.Bool.{cases_eq}
@@ -99,9 +99,10 @@ pub raised_alone : (old new : List NodeState) (id time : ℕ) (w : VisitState) �
     → GoesAlone (raise_visit id (length old) time) old w new → next_shard w ≡ None
     → Sweeps old time (length old) (alone w new)
 raised_alone old new id time w are gone over =
+    let long : length old ≡ length old - 0 = omega arith in
     sweeps_all old time 0 (alone (raise_visit id (length old) time) old) (alone w new) gone.0 (record {
       risen = none_risen old time are;
-      plan = refl;
+      plan = ap (λ n. map (λ i. at_shard i (giving (at_horizon time))) (range_with_len 0 n)) long;
       well = refl;
       none = λ zero. refl;
       kept = λ some. absurd (omega arith);
