@@ -9,6 +9,7 @@ the machine never ran all threads at once. Each round runs all in a drawn order.
 No round begins after five minutes, so that all ends within eight. It prints the lines of bench/runs.py.
 """
 
+import ctypes
 import math
 import os
 import random
@@ -30,6 +31,8 @@ SIZES = [1_024, 65_536]
 THREADS = [1, 2, 4]
 SHARDS = 16
 SLOW_READS = 200
+# of Linux's prctl: a process, and those that it begins, get no huge pages
+PR_SET_THP_DISABLE = 41
 
 
 class Row(NamedTuple):
@@ -38,6 +41,8 @@ class Row(NamedTuple):
     shards: int
     is_attached: bool = True  # of ours: the one thread of a pool takes locks too
     most: int = max(THREADS)
+    least_pages: int = min(SIZES)
+    is_huge: bool = True
 
 
 OURS, ARRAY = "ours", "a plain array"
@@ -47,6 +52,7 @@ ROWS = {
     "ours, no other handle": Row("ours", "pins", SHARDS, False, 1),
     OURS: Row("ours", "pins", SHARDS),
     "ours, with a reference": Row("ours", "references", SHARDS),
+    "ours, without huge pages": Row("ours", "pins", SHARDS, least_pages=max(SIZES), is_huge=False),
     "RocksDB LRUCache": Row("rocks", "lru", SHARDS),
     "RocksDB HyperClockCache": Row("rocks", "clock", SHARDS),
     "Berkeley DB, for all threads": Row("mpool", "shared", 0),
@@ -61,6 +67,11 @@ class Cell(NamedTuple):
 
     def case(self) -> str:
         return f"a hit, {self.pages:,} pages, threads: {self.threads}"
+
+
+def without_huge_pages() -> None:
+    if ctypes.CDLL(None).prctl(PR_SET_THP_DISABLE, 1, 0, 0, 0) != 0:
+        raise OSError("prctl")
 
 
 def ratio(one: float, other: float) -> float:
@@ -81,7 +92,9 @@ class Times:
         if row.is_attached:
             environment["OURS_ATTACHED"] = "1"
         words = [row.kind, "hits", str(cell.pages), str(SLICES), str(cell.threads), str(row.shards), file]
-        said = subprocess.run([folder / row.program, *words], stdout=subprocess.PIPE, check=True, text=True, env=environment).stdout.split()
+        before = None if row.is_huge else without_huge_pages
+        command = [folder / row.program, *words]
+        said = subprocess.run(command, stdout=subprocess.PIPE, check=True, text=True, env=environment, preexec_fn=before).stdout.split()
         self.took.add(cell.case(), cell.row, "ns", float(said[0]))
         self.took.add(f"{cell.case()}, median slice", cell.row, "ns", float(said[2]))
 
@@ -138,7 +151,8 @@ def main() -> None:
             for number in range(FILE_PAGES):
                 pages.write(number.to_bytes(8, "little") + bytes(PAGE_SIZE - 8))
         times, made = Times(), 0
-        cells = [Cell(name, pages, threads) for pages in SIZES for threads in THREADS for name, row in ROWS.items() if threads <= row.most]
+        cells = [Cell(name, pages, threads) for pages in SIZES for threads in THREADS for name in ROWS]
+        cells = [it for it in cells if it.threads <= ROWS[it.row].most and it.pages >= ROWS[it.row].least_pages]
         while made < rounds and (made == 0 or time.monotonic() - start < SECONDS):
             for cell in random.sample(cells, len(cells)):
                 times.run(folder, cell, file)
