@@ -3,14 +3,15 @@
  *
  * Helgrind knows the order that locks make, and none that atomic operations make: it takes what one
  * thread writes before an atomic store, and another reads after the load, for a race. A lock for
- * each address orders the operations on that address, and no others. What helgrind watches is
- * compiled by gcc with -fno-inline-atomics, so that each operation is a call of a function below.
+ * each address orders the operations on that address, and on the few that share its lock: a race
+ * that only these would show may go unseen. What helgrind watches is compiled by gcc with
+ * -fno-inline-atomics, so that each operation is a call of a function below.
  */
 #include <pthread.h>
 #include <stdbool.h>
 #include <stdint.h>
 
-/* Addresses may share a lock, since no operation is within another. */
+/* Addresses that share a lock cannot block each other: no operation is within another. */
 enum { ATOMIC_LOCKS = 4096 };
 static pthread_mutex_t locks[ATOMIC_LOCKS];
 
