@@ -143,7 +143,7 @@ typedef struct warm_reference {
 
 /* Where a pinned page is. A replica opened later may accept it. */
 typedef struct warm_slot {
-    uint64_t generation; /* of the frame: how many pages it had before */
+    uint64_t generation; /* of the frame: how many pages it had, with this one */
     uint32_t index;      /* of the frame in its shard, from 0 */
     uint16_t shard;
     uint16_t hit;        /* 1: this pin found the page in a frame; else 0 */
@@ -225,7 +225,7 @@ int warm_abandon(warm *handle);
 
 /* Sets how long later calls of this handle wait for reads, writes and before_write of other calls:
    each this many milliseconds from its first wait on; UINT64_MAX, as at first: without a limit.
-   After that pins, warm_prefetch, warm_step, warm_write, warm_bytes_mut and warm_mark_dirty are
+   After that, pins, warm_prefetch, warm_step, warm_write, warm_bytes_mut and warm_mark_dirty are
    refused with WARM_BUSY: call again. A wait for a locked shard has no limit, nor have other calls.
    Write-backs wait for two writes of each page at most, and for syncs; warm_forget_pages and
    warm_replace for what was under way at the call. */
