@@ -57,7 +57,7 @@ static void test_staying(void) {
     MUST(victim(&first) == 0);
     slot = hold_page(&second, 0);
     MUST(slot.index == 0 && slot.generation == 1 && slot.shard == 0 &&
-         lent == &node_of(&first, 0)->at[0].byte);
+         lent == node_of(&first, 0)->at[0].bytes);
     MUST(victim(&first) == 1 && victim(&second) == 1);
     no_pins(&first);
     OK(warm_unpin(&first, pin(&first, 2))); /* page 1 leaves, not page 0 */
