@@ -274,10 +274,10 @@ static void read_half(void) {
 /* Who reads waits for the end of a write of another handle, if it has begun. */
 static void test_step(void) {
     uint8_t bytes[SIZE];
-    open_two(&writer, &reader, 1, 2);
-    fill(&writer, 0);
+    open_two(&writer, &reader, 2, 4);
+    fill(&writer, 1);
     memset(bytes, 'n', SIZE);
-    read_slot = hold_page(&reader, 0);
+    read_slot = hold_page(&reader, 1);
     at_half = read_half;
     OK(warm_write(&writer, read_slot, 0, bytes, SIZE));
     at_half = NULL;
@@ -299,9 +299,9 @@ static void *write_often(void *of) {
 static void test_threads(void) {
     pthread_t thread;
     uint8_t got[SIZE + 1];
-    open_two(&writer, &reader, 1, 2);
-    fill(&writer, 0);
-    read_slot = hold_page(&reader, 0);
+    open_two(&writer, &reader, 2, 4);
+    fill(&writer, 1);
+    read_slot = hold_page(&reader, 1);
     at_half = give_turn;
     memset(got, 0, SIZE);
     OK(warm_write(&writer, read_slot, 0, got, SIZE));
