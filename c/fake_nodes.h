@@ -158,8 +158,7 @@ static int fake_pin(fake *its, node_page page, const uint8_t *given, node_slot *
         uint8_t byte = 0;
         if (given == NULL && !fake_read(its, page, &byte)) return fake_unread(its, page);
         if (frame->is_in && frame->is_dirty && !fake_write(its, frame)) return WARM_EVICT_FAULT;
-        *frame =
-            (fake_frame){.is_in = true, .page = page, .generation = frame->generation + 1};
+        *frame = (fake_frame){.is_in = true, .page = page, .generation = frame->generation + 1};
         memcpy(frame->bytes, given != NULL ? given : &byte, its->page_size);
     }
     frame->pins++;

@@ -84,8 +84,8 @@ static inline bool unpin_by_hold(opened *its, warm_slot slot) {
     return true;
 }
 
-/* Where the bytes of the slot's page lie, if the handle holds it: as long as it does its record
- * stays as it is. Else NULL. */
+/* Where the bytes of the slot's page lie, if the handle holds it, else NULL. A record does not
+ * change while its page is held. */
 static inline const uint8_t *held_bytes(const opened *its, warm_slot slot) {
     unsigned at;
     if (!find_hold(its, slot, &at)) return NULL;
@@ -532,8 +532,8 @@ static int leave_slot(const visit *made, int status) {
 
 /* Refuses what the node would. The shard is entered, so that a warm_write by another handle is one
  * step for who reads. */
-static int read_held(opened *its, warm_slot slot, const uint8_t *bytes, size_t at, void *into,
-    size_t length) {
+static int read_held(
+    opened *its, warm_slot slot, const uint8_t *bytes, size_t at, void *into, size_t length) {
     size_t size = its->of->page_size;
     if (at > size || length > size - at) return WARM_OUT_OF_PAGE;
     shard *in = &its->shards[slot.shard];
