@@ -234,7 +234,7 @@ static void test_counting(void) {
     MUST(((opened *)second.at)->holds == its && blocks == there + 3);
     warm_slot slot = hold_page(&second, 0);
     uint8_t byte;
-    OK(warm_read(&second, slot, 0, &byte, 1));
+    OK(warm_mark_dirty(&second, slot));
     OK(warm_read(&first, slot, 0, &byte, 1));
     /* also of what is said to leave */
     MUST(victim(&first) == 1 && ((opened *)first.at)->shards[0].table.pins == 4);
