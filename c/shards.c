@@ -84,8 +84,8 @@ static inline bool unpin_by_hold(opened *its, warm_slot slot) {
     return true;
 }
 
-/* Where the bytes of the slot's page lie, if the handle holds it, else NULL. A record does not
- * change while its page is held. */
+/* Where the bytes of the slot's page lie, if the handle holds it, else NULL. What a record says of
+ * a page does not change while that is held. */
 static inline const uint8_t *held_bytes(const opened *its, warm_slot slot) {
     unsigned at;
     if (!find_hold(its, slot, &at)) return NULL;
