@@ -20,12 +20,12 @@
    its shard, but not while it reads a page, and seldom while it writes one. A call on the whole
    replica locks one shard after another; warm_forget_pages and warm_replace lock all at once, and
    wait for reads and writes of their pages; warm_replace locks all while it writes and flushes. A
-   pin of a page pinned twice since it was loaded, and its unpin, usually take no lock, for 8 pages
-   of a handle at a time. A call waits while another call reads its page, and before it writes a
-   page, while another writes it. If that read or write fails, the call makes its own. If another
-   call's second write is under way by then, the call has its result. If all pages that could leave
-   for its page are being written, a pin waits for one of these writes or an unpin. See
-   warm_limit_waits.
+   pin of a page pinned twice since it was loaded, its warm_bytes and its unpin usually take no
+   lock, for 8 pages of a handle at a time. A call waits while another call reads its page, and
+   before it writes a page, while another writes it. If that read or write fails, the call makes its
+   own. If another call's second write is under way by then, the call has its result. If all pages
+   that could leave for its page are being written, a pin waits for one of these writes or an unpin.
+   See warm_limit_waits.
    The calls on a shard have one order; a call on several shards is not one step.
 
    You may pass any slot, page, number, length, message or descriptor: the call is refused, or does
