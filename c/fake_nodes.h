@@ -92,14 +92,15 @@ void node_close(node *of) {
     *of = (node){0};
 }
 
+/* The device is to be flushed afterwards, also where the write fails. */
 static bool fake_write(fake *its, fake_frame *frame) {
     node_page page = frame->page;
+    its->waits[page.dev] = true;
     if (device_write(its->devices[page.dev].number, &frame->byte, 1, (off_t)page.no) != 1) {
         its->failed = (node_failure){
             .no = page.no, .dev = page.dev, .what = WARM_FAILED_WRITE, .error = errno};
         return false;
     }
-    its->waits[page.dev] = true;
     its->writes++;
     frame->is_dirty = false;
     return true;
@@ -136,13 +137,19 @@ static bool fake_read(const fake *its, node_page page, uint8_t *byte) {
     return (off_t)page.no < unreadable;
 }
 
+/* Whether each page in a frame has as many pins as it can have: where a test says so. */
+static bool pins_are_full;
+
 /* Where no byte is given, the page is read. */
 static int fake_pin(fake *its, node_page page, const uint8_t *given, node_slot *slot) {
     if (page.dev >= its->device_count) return WARM_NO_DEVICE;
     if (page.no >= FAKE_PAGES) return WARM_NO_PAGE;
     fake_frame *frame = fake_frame_for(its, page);
     if (frame == NULL) return WARM_ALL_PINNED;
-    if (!frame->is_in || frame->page.no != page.no || frame->page.dev != page.dev) {
+    bool is_there =
+        frame->is_in && frame->page.no == page.no && frame->page.dev == page.dev;
+    if (is_there && pins_are_full) return WARM_PINS_FULL;
+    if (!is_there) {
         uint8_t byte = 0;
         if (given != NULL) byte = *given;
         else if (!fake_read(its, page, &byte)) return fake_unread(its, page);
@@ -161,12 +168,9 @@ static fake_frame *fake_pinned(fake *its, node_slot slot) {
     return frame->pins > 0 && frame->generation == slot.generation ? frame : NULL;
 }
 
-/* Whether each page in a frame has as many pins as it can have: where a test says so. */
-static bool pins_are_full;
-
 int node_pin(node *of, node_page page, node_slot *slot) {
     fake *its = fake_in(of);
-    return fake_out(of, pins_are_full ? WARM_PINS_FULL : fake_pin(its, page, NULL, slot));
+    return fake_out(of, fake_pin(its, page, NULL, slot));
 }
 
 int node_pin_filled(
@@ -180,7 +184,6 @@ int node_pin_filled(
 
 int node_pin_zeroed(node *of, node_page page, node_slot *slot) {
     fake *its = fake_in(of);
-    if (pins_are_full) return fake_out(of, WARM_PINS_FULL);
     int status = fake_pin(its, page, (const uint8_t[1]){0}, slot);
     if (status != WARM_OK) return fake_out(of, status);
     its->at[slot->index].byte = 0;
@@ -212,20 +215,24 @@ int node_unpin(node *of, node_slot slot) {
     return fake_out(of, frame != NULL ? WARM_OK : WARM_STALE_SLOT);
 }
 
+/* Whether these bytes are in the page of a slot, or why not. */
+static int fake_reach(const fake_frame *frame, size_t at, size_t length) {
+    if (frame == NULL) return WARM_STALE_SLOT;
+    return at > 1 || length > 1 - at ? WARM_OUT_OF_PAGE : WARM_OK;
+}
+
 int node_read(node *of, node_slot slot, size_t at, uint8_t *into, size_t length) {
     fake_frame *frame = fake_pinned(fake_in(of), slot);
-    int status = frame == NULL ? WARM_STALE_SLOT : at + length > 1 ? WARM_OUT_OF_PAGE : WARM_OK;
+    int status = fake_reach(frame, at, length);
     if (status == WARM_OK && length == 1) *into = frame->byte;
     return fake_out(of, status);
 }
 
 int node_write(node *of, node_slot slot, size_t at, const uint8_t *bytes, size_t length) {
     fake_frame *frame = fake_pinned(fake_in(of), slot);
-    int status = frame == NULL ? WARM_STALE_SLOT : at + length > 1 ? WARM_OUT_OF_PAGE : WARM_OK;
-    if (status == WARM_OK) {
-        frame->byte = *bytes;
-        frame->is_dirty = true;
-    }
+    int status = fake_reach(frame, at, length);
+    if (status == WARM_OK && length == 1) frame->byte = *bytes;
+    if (status == WARM_OK) frame->is_dirty = true;
     return fake_out(of, status);
 }
 
