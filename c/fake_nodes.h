@@ -99,16 +99,17 @@ void node_close(node *of) {
     *of = (node){0};
 }
 
+/* The device is to be flushed afterwards, also where the write fails. */
 static bool fake_write(fake *its, fake_frame *frame) {
     node_page page = frame->page;
     off_t at = (off_t)(page.no * its->page_size);
     int32_t number = its->devices[page.dev].number;
+    its->waits[page.dev] = true;
     if (device_write(number, frame->bytes, its->page_size, at) != (ssize_t)its->page_size) {
         its->failed = (node_failure){
             .no = page.no, .dev = page.dev, .what = WARM_FAILED_WRITE, .error = errno};
         return false;
     }
-    its->waits[page.dev] = true;
     its->writes++;
     frame->is_dirty = false;
     return true;
@@ -147,6 +148,9 @@ static bool fake_read(const fake *its, node_page page, uint8_t *byte) {
     return (off_t)page.no < unreadable;
 }
 
+/* Whether each page in a frame has as many pins as it can have: where a test says so. */
+static bool pins_are_full;
+
 /* Where no bytes are given, the page is read. */
 static int fake_pin(fake *its, node_page page, const uint8_t *given, node_slot *slot) {
     if (page.dev >= its->device_count) return WARM_NO_DEVICE;
@@ -154,7 +158,10 @@ static int fake_pin(fake *its, node_page page, const uint8_t *given, node_slot *
     fake_frame *frame = fake_frame_for(its, page);
     MUST(its->page_size <= FAKE_BYTES);
     if (frame == NULL) return WARM_ALL_PINNED;
-    if (!frame->is_in || frame->page.no != page.no || frame->page.dev != page.dev) {
+    bool is_there =
+        frame->is_in && frame->page.no == page.no && frame->page.dev == page.dev;
+    if (is_there && pins_are_full) return WARM_PINS_FULL;
+    if (!is_there) {
         uint8_t byte = 0;
         if (given == NULL && !fake_read(its, page, &byte)) return fake_unread(its, page);
         if (frame->is_in && frame->is_dirty && !fake_write(its, frame)) return WARM_EVICT_FAULT;
@@ -172,12 +179,9 @@ static fake_frame *fake_pinned(fake *its, node_slot slot) {
     return frame->pins > 0 && frame->generation == slot.generation ? frame : NULL;
 }
 
-/* Whether each page in a frame has as many pins as it can have: where a test says so. */
-static bool pins_are_full;
-
 int node_pin(node *of, node_page page, node_slot *slot) {
     fake *its = fake_in(of);
-    return fake_out(of, pins_are_full ? WARM_PINS_FULL : fake_pin(its, page, NULL, slot));
+    return fake_out(of, fake_pin(its, page, NULL, slot));
 }
 
 int node_pin_filled(
@@ -191,7 +195,6 @@ int node_pin_filled(
 
 int node_pin_zeroed(node *of, node_page page, node_slot *slot) {
     fake *its = fake_in(of);
-    if (pins_are_full) return fake_out(of, WARM_PINS_FULL);
     int status = fake_pin(its, page, (const uint8_t[FAKE_BYTES]){0}, slot);
     if (status != WARM_OK) return fake_out(of, status);
     memset(its->at[slot->index].bytes, 0, its->page_size);
@@ -223,17 +226,17 @@ int node_unpin(node *of, node_slot slot) {
     return fake_out(of, frame != NULL ? WARM_OK : WARM_STALE_SLOT);
 }
 
-static int fake_within(const fake *its, const fake_frame *frame, size_t at, size_t length) {
-    size_t end;
+/* Whether these bytes are in the page of a slot, or why not. */
+static int fake_reach(const fake *its, const fake_frame *frame, size_t at, size_t length) {
+    size_t size = its->page_size;
     if (frame == NULL) return WARM_STALE_SLOT;
-    bool is_out = __builtin_add_overflow(at, length, &end) || end > its->page_size;
-    return is_out ? WARM_OUT_OF_PAGE : WARM_OK;
+    return at > size || length > size - at ? WARM_OUT_OF_PAGE : WARM_OK;
 }
 
 int node_read(node *of, node_slot slot, size_t at, uint8_t *into, size_t length) {
     fake *its = fake_in(of);
     fake_frame *frame = fake_pinned(its, slot);
-    int status = fake_within(its, frame, at, length);
+    int status = fake_reach(its, frame, at, length);
     if (status == WARM_OK) memcpy(into, frame->bytes + at, length);
     return fake_out(of, status);
 }
@@ -245,7 +248,7 @@ static void (*at_half)(void);
 int node_write(node *of, node_slot slot, size_t at, const uint8_t *bytes, size_t length) {
     fake *its = fake_in(of);
     fake_frame *frame = fake_pinned(its, slot);
-    int status = fake_within(its, frame, at, length);
+    int status = fake_reach(its, frame, at, length);
     if (status == WARM_OK) {
         memcpy(frame->bytes + at, bytes, length / 2);
         if (at_half != NULL) at_half();
