@@ -101,24 +101,27 @@ impl<D: PageDevice> Shard<D> {
     }
 }
 
-// Lets a visitor pin a page in its shard, with bytes in place of a read.
+// Pins a page in its shard, with these bytes in place of a read, which a tag tells too.
 fn fill_in<D: PageDevice + Send, R: Wait>(
     rt: &R,
     turns: &Vec<Turn<Shard<D>>>,
     passes: &mut Vec<Pass<Shard<D>>>,
     shard: usize,
-    filling: Filling<'_>,
+    page: PageId,
+    bytes: &[u8],
+    told: Tag,
 ) -> Result<Slot, SharedFault>
     requires turns { AreTurns turns.now.items }
     requires passes { AreOf turns.now.items passes.old.items }
     requires there { shard < length turns.now.items }
-    requires own { shard_of (length turns.now.items) filling.page ≡ shard }
+    requires own { shard_of (length turns.now.items) page ≡ shard }
     requires unsure { ClaimNothing D.state }
-    requires told { filling.told.numbers ≡ filling.bytes.now }
+    requires told { told.numbers ≡ bytes.now }
     ensures passes { AreOf turns.now.items passes.new.items }
-    ensures ends { CallEnds passes.old.items shard (PinFilled filling.page filling.told) Pinned
-        result passes.new.items }
+    ensures ends { CallEnds passes.old.items shard (PinFilled page told) Pinned result
+        passes.new.items }
 {
+    let filling = Filling { page, bytes, told };
     match visit_or_back(rt, turns, passes, shard, filling) {
         Ok(Went::Given(slot)) => Ok(slot),
         Ok(Went::Refused(why)) => Err(SharedFault::Node(why)),
@@ -146,7 +149,7 @@ fn pin_filled_in<D: PageDevice + Send, R: Wait>(
         passes.new.items }
 {
     let told = tag_of(bytes);
-    fill_in(rt, turns, passes, shard, Filling { page, bytes, told })
+    fill_in(rt, turns, passes, shard, page, bytes, told)
 }
 
 impl<D: PageDevice + Send> SharedShards<D> {
