@@ -84,15 +84,15 @@ TakeFails message k why old new = (mid : List ShardPass) × (k < length old)
     ⊎ CallFails mid k (part_call (length old) message k) why new)
 
 -- the message that would bring all that a history says
-abbrev pub message_of : HistoryView → Message
-message_of h = Entries 0 h.horizon (entries_of h)
+abbrev pub history_message : HistoryView → Message
+history_message h = Entries 0 h.horizon (entries_of h)
 
 -- the same of the parts of a history, as of the message that would bring it
 abbrev pub JoinsFirst : HistoryView → ℕ → List ShardPass → List ShardPass → Type 0
-JoinsFirst h k old new = TakesFirst (message_of h) k old new
+JoinsFirst h k old new = TakesFirst (history_message h) k old new
 
 abbrev pub JoinFails : HistoryView → ℕ → SharedFault → List ShardPass → List ShardPass → Type 0
-JoinFails h k why old new = TakeFails (message_of h) k why old new
+JoinFails h k why old new = TakeFails (history_message h) k why old new
 
 -- these are the parts of a batch, of each shard its own
 pub record ArePartsOf (shards : ℕ) (batch : List Reference) (parts : List (Vec Reference)) : Type 0 where
