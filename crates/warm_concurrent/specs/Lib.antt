@@ -11,5 +11,6 @@ pub mod Given
 pub mod Answering
 pub mod Copying
 pub mod Retiring
+pub mod Filling
 pub mod Gossip
 pub mod Visits

@@ -14,8 +14,9 @@ use warm_devices::PageDevice;
 
 /// A legal list of calls of a shard is a legal list of steps of its node: of its calls, and of what
 /// it is asked beside them. That is to write back, of which a caller sees at most a count of
-/// failures, to pin pages that get zeros, to forget pages, to replace devices, to take entries in,
-/// and to give what is in its history.
+/// failures, to pin pages that get zeros, or bytes that were read before, to name the next page of
+/// a warm-up, to forget pages, to replace devices, to take entries in, and to give what is in its
+/// history.
 pub fn calls_are_a_nodes()
     ensures { CallsAreANodes }
 {}
@@ -31,10 +32,11 @@ pub fn shards_are_of_given()
 {}
 
 /// What a thread's call gives the shards: just the references of the batch that it absorbs, just the
-/// horizon that it raises, just both of the message that it receives. One that stops at a shard
-/// gives just the parts of the shards before, and any other call nothing. So two threads absorb a
-/// batch each, one is detached into the other, which closes the shards: all nodes come back, and
-/// together stand for what they opened with and both batches, and for nothing else.
+/// horizon that it raises, just both of the message that it receives, or of the history that it
+/// joins. One that stops at a shard gives just the parts of the shards before, and any other call
+/// nothing. So two threads absorb a batch each, one is detached into the other, which closes the
+/// shards: all nodes come back, and together stand for what they opened with and both batches, and
+/// for nothing else.
 pub fn threads_give()
     ensures given { ThreadsGive }
     ensures two { TwoThreadsAreHeld }
