@@ -13,3 +13,4 @@ pub mod Copying
 pub mod Retiring
 pub mod Gossip
 pub mod Visits
+pub mod Pins
