@@ -1,5 +1,5 @@
 -- Worked examples: two threads share a pool of two frames, and one unpins what the other pinned.
-use Rattle.std.proofs.Common.{◌≡◌, ℕ, ◌+◌, List, [], ◌∷◌, Some, refl}
+use Rattle.std.proofs.Common.{◌≡◌, ℕ, ◌+◌, List, [], ◌∷◌, Some, refl, arith}
 use Rattle.warm_stamps.specs.declared.PageId.{PageId}
 use Rattle.warm_pool.specs.declared.slot.Slot.{Slot}
 use Rattle.warm_pool.specs.View.{FrameView}
@@ -52,4 +52,4 @@ second_counts = refl
 
 -- a count that leaves the first pin out is wrong
 uncounted : LeadsTo 0 (calls_by 0 mixed) 0 → ⊥
-uncounted wrong = absurd (omega wrong)
+uncounted wrong = omega (arith, wrong)

@@ -202,7 +202,6 @@ warm_moves old new (Some p) step free =
 
 -- ---- pages that leave
 
-
 gone_pins : (gone : FrameView → Bool) (fs : List FrameView)
     → pins_in (map (λ f. if gone f then emptied f else f) fs) ≡ pins_in fs
 gone_pins gone [] = refl
