@@ -28,4 +28,5 @@ pub mod LogPins
 pub mod StepPins
 pub mod ThreadPins
 pub mod ClosePins
+pub mod TwoPins
 pub mod PinExamples

@@ -1,15 +1,15 @@
 -- Worked examples: two threads share a pool of two frames, and one unpins what the other pinned.
-use Rattle.std.proofs.Common.{◌≡◌, ℕ, ◌+◌, List, [], ◌∷◌, Some, refl, arith}
+use Rattle.std.proofs.Common.{◌≡◌, ℕ, [], ◌∷◌, Some, refl, arith}
 use Rattle.warm_stamps.specs.declared.PageId.{PageId}
 use Rattle.warm_pool.specs.declared.slot.Slot.{Slot}
 use Rattle.warm_pool.specs.View.{FrameView}
 use Rattle.warm_gossip.specs.declared.fault.NodeFault.TheVariants.{StaleSlot}
 use Rattle.warm_machine.specs.Runs.{operation}
 use Rattle.warm_turn.specs.CallHistories.{calls_by}
-use Rattle.warm_concurrent.specs.declared.call.ShardCall.TheVariants.{Look, Pin, Unpin}
-use Rattle.warm_concurrent.specs.declared.call.ShardReply.TheVariants.{Done, Looked, Pinned, Refused}
+use Rattle.warm_concurrent.specs.declared.call.ShardCall.TheVariants.{Pin, Unpin}
+use Rattle.warm_concurrent.specs.declared.call.ShardReply.TheVariants.{Done, Pinned, Refused}
 use Rattle.warm_concurrent.specs.Given.{Log}
-use Rattle.warm_concurrent.specs.Pins.{LeadsTo, pins_by, pins_in, unpins_by}
+use Rattle.warm_concurrent.specs.Pins.{LeadsTo, pins_in}
 
 abbrev page : ℕ → PageId
 page n = record { dev = 0; no = n }

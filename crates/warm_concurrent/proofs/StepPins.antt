@@ -1,9 +1,8 @@
 -- What calls of a shard do to the pins of its pool.
-use Rattle.std.proofs.Common.{◌≡◌, ℕ, ◌+◌, List, [], ◌∷◌, map, Option, Some, None, refl, sym, ap, subst, ◌∙◌, arith}
+use Rattle.std.proofs.Common.{◌≡◌, ℕ, ◌+◌, List, [], ◌∷◌, map, Option, Some, None, refl, sym, ap, subst, arith}
 use Rattle.std.proofs.lemmas.List.Sums.{sum_by-cons}
 use Rattle.warm_stamps.specs.declared.PageId.{PageId}
 use Rattle.warm_pool.specs.declared.fault.PoolFault.TheVariants.{Fixed, NoDevice}
-use Rattle.warm_pool.specs.declared.slot.Slot.{Slot}
 use Rattle.warm_pool.specs.Forgetting.{ForgetRefused}
 use Rattle.warm_pool.specs.Frames.{FrameState}
 use Rattle.warm_pool.specs.State.{PoolState}
@@ -16,13 +15,11 @@ use Rattle.warm_gossip.specs.declared.fault.NodeFault.{NodeFault}
 use Rattle.warm_gossip.specs.declared.fault.NodeFault.TheVariants.{Memory, Pool, StaleSlot}
 use Rattle.warm_gossip.specs.Clauses.{NodeWriteBackFails, OfPool, SameView}
 use Rattle.warm_gossip.specs.State.{NodeState, NodeView, node_view}
-use Rattle.warm_machine.specs.Runs.{Runs}
 use Rattle.warm_concurrent.specs.declared.call.ShardCall.{ShardCall}
 use Rattle.warm_concurrent.specs.declared.call.ShardCall.TheVariants.{Absorb, Answer, Change, CopyHistory, ForgetPages, Look, Offer, Pin, PinZeroed, Raise, Read, Retire, Send, SendSince, TakeIn, Unpin, Victim, WarmList, WarmStep, Write, WriteBack, WritePages, WriteSome}
 use Rattle.warm_concurrent.specs.declared.call.ShardReply.{ShardReply}
 use Rattle.warm_concurrent.specs.declared.call.ShardReply.TheVariants.{Answers, Changed, Copied, Dirty, Done, Foreign, Loaded, Looked, Pinned, Portion, Refused}
-use Rattle.warm_concurrent.specs.Given.{Log}
-use Rattle.warm_concurrent.specs.Pins.{FreeAreUnpinned, PinsAreGiven, pin_by, pool_pins, unpin_by}
+use Rattle.warm_concurrent.specs.Pins.{PinsAreGiven, pin_by, pool_pins, unpin_by}
 use Rattle.warm_concurrent.specs.ShardSteps.{CallGoes, NodeGoes, ShardState, ShardStep, asked_of, node_reply_of}
 use Rattle.warm_concurrent.proofs.PoolPins.{IsCalm, IsFree, Moves, calm_same, forgotten_moves, pin_moves, refused_same, retire_refused, retired_moves, same_moves, then_same, unpin_moves, warm_moves, zeroed_moves}
 

@@ -19,12 +19,14 @@
 -- pins q: the counts are 1 and 1, and the pools have 2 pins. B unpins the slot of A: the counts are
 -- 1 and 0, and q alone is pinned. A, refused as it unpins its own slot, cannot be detached until it
 -- has unpinned that of B (`proofs/PinExamples.antt`).
-use Rattle.std.specs.Prelude.{◌≡◌, ℕ, ◌+◌, ◌<◌, List, [], ◌∷◌, ◌++◌, length, map, None, Result, Ok}
+use Rattle.std.specs.Prelude.{◌≡◌, ℕ, ◌+◌, ◌<◌, List, ◌++◌, length, map, None, Result, Ok}
 use Rattle.std.specs.List.{flat_map, sum_by}
 use Rattle.warm_turn.specs.declared.fault.Busy.{Busy}
 use Rattle.warm_pool.specs.View.{FrameView, IsUnfixed, frame_at, view_of}
 use Rattle.warm_frames.specs.declared.message.Message.{Message}
 use Rattle.warm_machine.specs.Runs.{Runs}
+use Rattle.warm_pool.specs.declared.slot.Slot.{Slot}
+use Rattle.warm_stamps.specs.declared.PageId.{PageId}
 use Rattle.warm_stamps.specs.declared.Reference.{Reference}
 use Rattle.warm_history.specs.Histories.{HistoryView}
 use Rattle.warm_gossip.specs.State.{NodeState}
@@ -177,4 +179,20 @@ PinsComeBack = (turns : List ShardTurn) (thread : AttachedView) (nodes : List No
 abbrev pub ClosesUnpinned : List ShardTurn → AttachedView → List (Result NodeState Busy) → Type 0
 ClosesUnpinned turns thread results = NoneIsPinned (opened_nodes turns)
     → HasWholeRight (length turns) thread.passes → IsCounted thread
+    → (nodes : List NodeState) × (results ≡ map (λ n. Ok n) nodes) × NoneIsPinned nodes
+
+-- Two threads, used
+
+-- A thread shares shards of which no page is pinned, and attaches another. Each pins a page, and
+-- unpins the slot of the other. The other is detached into the first, which closes the shards: each
+-- node is given back, and no page is pinned.
+abbrev pub TwoThreadsUnpin : Type 0
+TwoThreadsUnpin = (turns : List ShardTurn) (first here there : List ShardPass)
+    (mine yours done other all : List ShardPass) (i j : ℕ) (p q : PageId) (a b : Slot)
+    (results : List (Result NodeState Busy)) → NoneIsPinned (opened_nodes turns)
+    → AreFirst turns first → AreHalved first here → AreSplit first there → i < length turns
+    → j < length turns → AnsweredByShard here i (Pin p) (Pinned a) mine
+    → AnsweredByShard there j (Pin q) (Pinned b) yours
+    → AnsweredByShard mine j (Unpin b) Done done → AnsweredByShard yours i (Unpin a) Done other
+    → PassesAreJoined done other all → AreOf turns all → AreClosed turns all results
     → (nodes : List NodeState) × (results ≡ map (λ n. Ok n) nodes) × NoneIsPinned nodes

@@ -5,6 +5,7 @@ ghost use Rattle.warm_concurrent.specs.Given.{TwoThreadsAreHeld};
 ghost use Rattle.warm_concurrent.specs.Laws.{CallsAreANodes, OnlySeesMore, ShardIsOfGiven};
 ghost use Rattle.warm_concurrent.specs.Laws.{ShardsHoldTheirPages, TogetherAreOfGiven};
 ghost use Rattle.warm_concurrent.specs.Pins.{PinsAreCounted, PinsAreGiven, PinsComeBack};
+ghost use Rattle.warm_concurrent.specs.Pins.{TwoThreadsUnpin};
 ghost use Rattle.warm_concurrent.specs.Rights.{NodesComeBack};
 ghost use Rattle.warm_concurrent.specs.ToldDevices.{ToldAreOne};
 ghost use Rattle.std.specs.Thread.{IsSend, IsSync};
@@ -74,11 +75,13 @@ pub fn all_nodes_come_back()
 /// threads made these calls. The count of a thread is that of its calls, and of those of the threads
 /// that were detached into it. So if one thread is left and closes the shards, their nodes together
 /// have the pins with which they opened, and as many as that thread counts. [`crate::SharedShards::close`]
-/// refuses it unless it counts none.
+/// refuses it unless it counts none. So two threads pin a page each, each unpins what the other
+/// pinned, one is detached into the other, which closes the shards: no page is pinned.
 pub fn pins_are_counted()
     ensures shard { PinsAreGiven }
     ensures threads { PinsAreCounted }
     ensures closed { PinsComeBack }
+    ensures two { TwoThreadsUnpin }
 {}
 
 /// The numbers by which the call `Retire` tells of a device are those of one state alone.
