@@ -178,7 +178,7 @@ turns_long opened turns opens =
 no_result : Result NodeState Busy
 no_result = Ok no_shard
 
-closed_node : (turns : List ShardTurn) (passes : List ShardPass) (nodes : List NodeState) (i : ℕ)
+pub closed_node : (turns : List ShardTurn) (passes : List ShardPass) (nodes : List NodeState) (i : ℕ)
     → AreClosed turns passes (map (λ n. Ok n) nodes) → i < length turns
     → ClosesShard (shard_turn turns i) (known_of passes i) (Ok (shard_at nodes i))
 closed_node turns passes nodes i closed lt =

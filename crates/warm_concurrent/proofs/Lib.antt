@@ -24,3 +24,10 @@ pub mod Stopping
 pub mod Headline
 pub mod Threads
 pub mod VictimsHold
+pub mod PoolPins
+pub mod LogPins
+pub mod StepPins
+pub mod ThreadPins
+pub mod ClosePins
+pub mod TwoPins
+pub mod PinExamples

@@ -121,7 +121,7 @@ ended_kept =
     (λ old new so i. so.1 i)
 
 -- one of these moves, and the others have what they had
-moves_there : (before these left after : Threads) → Moves these left
+pub moves_there : (before these left after : Threads) → Moves these left
     → ThreadsMove (before ++ these ++ after) (before ++ left ++ after)
 moves_there before these left after moves = record {
   before = before;

@@ -14,3 +14,4 @@ pub mod Retiring
 pub mod Filling
 pub mod Gossip
 pub mod Visits
+pub mod Pins

@@ -4,6 +4,7 @@ ghost use Rattle.std.specs.Prelude.{vec_capacity};
 ghost use Rattle.warm_concurrent.specs.Attached.{AreOf};
 ghost use Rattle.warm_concurrent.specs.Opening.{AreClosed, AreHalved, AreSplit, ClosesShard};
 ghost use Rattle.warm_concurrent.specs.Opening.{IsCloseRefused, PassesAreJoined};
+ghost use Rattle.warm_concurrent.specs.Pins.{ClosesUnpinned};
 
 use crate::fault::SharedFault;
 use crate::shard::Shard;
@@ -156,11 +157,13 @@ impl<D: PageDevice + Send> SharedShards<D> {
     ///
     /// `Busy` in place of a node: fewer calls of the shard were answered than begun, and the node
     /// is lost. It does not occur where all other threads were detached into this one: then the
-    /// thread has the whole right to close.
+    /// thread has the whole right to close. No page of these nodes is pinned then, if none was when
+    /// the shards were shared.
     ///
     /// # Errors
     /// In this order: `PinsHeld`, where this thread holds pins; `Node(Memory)`, where an allocation
     /// fails. Nothing has changed, and both are given back.
+    #[tactic(auto, using(crate::proofs::ClosePins::closes_unpinned))]
     pub fn close(
         self,
         alloc: Global,
@@ -169,6 +172,7 @@ impl<D: PageDevice + Send> SharedShards<D> {
         requires { AreOf self attached.passes }
         ensures closed { IfOk result (λ nodes. AreClosed self attached.passes nodes.items) }
         ensures free { OnOk result (attached.pins ≡ 0) }
+        ensures unpinned { IfOk result (λ nodes. ClosesUnpinned self attached nodes.items) }
         ensures refused { IfErr result (λ not. IsCloseRefused attached.pins not.fault
             × (not.shared ≡ self) × (not.attached ≡ attached)) }
     {

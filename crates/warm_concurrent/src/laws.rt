@@ -4,6 +4,8 @@ ghost use Rattle.warm_concurrent.specs.Given.{SharedIsOfGiven, SharedVictims, Th
 ghost use Rattle.warm_concurrent.specs.Given.{TwoThreadsAreHeld};
 ghost use Rattle.warm_concurrent.specs.Laws.{CallsAreANodes, OnlySeesMore, ShardIsOfGiven};
 ghost use Rattle.warm_concurrent.specs.Laws.{ShardsHoldTheirPages, TogetherAreOfGiven};
+ghost use Rattle.warm_concurrent.specs.Pins.{PinsAreCounted, PinsAreGiven, PinsComeBack};
+ghost use Rattle.warm_concurrent.specs.Pins.{TwoThreadsUnpin};
 ghost use Rattle.warm_concurrent.specs.Rights.{NodesComeBack};
 ghost use Rattle.warm_concurrent.specs.ToldDevices.{ToldAreOne};
 ghost use Rattle.std.specs.Thread.{IsSend, IsSync};
@@ -68,6 +70,20 @@ pub fn only_sees_more()
 /// thread, to attach halves it, and to detach adds that of the other.
 pub fn all_nodes_come_back()
     ensures { NodesComeBack }
+{}
+
+/// The pins of a shard's pool are those with which it opened, one more for each `Pin` and `PinZeroed`
+/// that it answered `Pinned`, and one less for each `Unpin` that it answered `Done`, whichever
+/// threads made these calls. The count of a thread is that of its calls, and of those of the threads
+/// that were detached into it. So if one thread is left and closes the shards, their nodes together
+/// have the pins with which they opened, and as many as that thread counts. [`crate::SharedShards::close`]
+/// refuses it unless it counts none. So two threads pin a page each, each unpins what the other
+/// pinned, one is detached into the other, which closes the shards: no page is pinned.
+pub fn pins_are_counted()
+    ensures shard { PinsAreGiven }
+    ensures threads { PinsAreCounted }
+    ensures closed { PinsComeBack }
+    ensures two { TwoThreadsUnpin }
 {}
 
 /// The numbers by which the call `Retire` tells of a device are those of one state alone.

@@ -1,0 +1,13 @@
+use Rattle.warm_concurrent.proofs.ClosePins.{pins_come_back}
+use Rattle.warm_concurrent.proofs.StepPins.{pins_are_given}
+use Rattle.warm_concurrent.proofs.ThreadPins.{pins_are_counted}
+use Rattle.warm_concurrent.proofs.TwoPins.{two_threads_unpin}
+use Rattle.warm_concurrent.proofs.laws.pins_are_counted.Goals as goal
+
+pub returns : goal.returns
+returns c = record {
+  shard = pins_are_given;
+  threads = pins_are_counted;
+  closed = pins_come_back;
+  two = two_threads_unpin;
+}

@@ -1,0 +1,198 @@
+-- Pins: which calls give and remove them, and how many are left.
+--
+-- A frame counts its pins, and a slot names a frame. Neither says who pinned it, and a thread may
+-- unpin what another pinned. So what holds is a sum: the pins of all pools are those with which the
+-- shards opened, and the counts of all threads together. It is three laws.
+--
+-- Of a shard (`PinsAreGiven`): a legal list of its calls leads from the pins of its pool to those
+-- pins, one more for each pin that it answered, and one less for each unpin.
+--
+-- Of a thread (`PinsAreCounted`): its count is that of its calls of all shards, and of those of the
+-- threads that were detached into it. `detach` refuses a thread whose count is not 0.
+--
+-- Of a close (`PinsComeBack`), by the thread that is left: the log of a shard has just these calls.
+-- So the nodes together have the pins that they opened with, and as many as the thread counts.
+-- `close` refuses a thread whose count is not 0. Then no page is pinned, if none was when the shards
+-- opened (`ClosesUnpinned`, a clause of `close`).
+--
+-- A look and a change pin and unpin in one turn: they count as neither. For example, A pins p, and B
+-- pins q: the counts are 1 and 1, and the pools have 2 pins. B unpins the slot of A: the counts are
+-- 1 and 0, and q alone is pinned. A, refused as it unpins its own slot, cannot be detached until it
+-- has unpinned that of B (`proofs/PinExamples.antt`).
+use Rattle.std.specs.Prelude.{◌≡◌, ℕ, ◌+◌, ◌<◌, List, ◌++◌, length, map, None, Result, Ok}
+use Rattle.std.specs.List.{flat_map, sum_by}
+use Rattle.warm_turn.specs.declared.fault.Busy.{Busy}
+use Rattle.warm_pool.specs.View.{FrameView, IsUnfixed, frame_at, view_of}
+use Rattle.warm_frames.specs.declared.message.Message.{Message}
+use Rattle.warm_machine.specs.Runs.{Runs}
+use Rattle.warm_pool.specs.declared.slot.Slot.{Slot}
+use Rattle.warm_stamps.specs.declared.PageId.{PageId}
+use Rattle.warm_stamps.specs.declared.Reference.{Reference}
+use Rattle.warm_history.specs.Histories.{HistoryView}
+use Rattle.warm_gossip.specs.State.{NodeState}
+use Rattle.warm_shards.specs.Shards.{shard_at}
+use Rattle.warm_concurrent.specs.declared.answering.Offered.{Offered}
+use Rattle.warm_concurrent.specs.declared.call.ShardCall.{ShardCall}
+use Rattle.warm_concurrent.specs.declared.call.ShardCall.TheVariants.{Pin, PinZeroed, Unpin}
+use Rattle.warm_concurrent.specs.declared.call.ShardReply.{ShardReply}
+use Rattle.warm_concurrent.specs.declared.call.ShardReply.TheVariants.{Done, Pinned}
+use Rattle.warm_concurrent.specs.declared.fault.SharedFault.{SharedFault}
+use Rattle.warm_concurrent.specs.Answering.{AnswersFirst, OffersFirst}
+use Rattle.warm_concurrent.specs.Attached.{AreOf, AttachedView, Known, ShardPass, ShardTurn}
+use Rattle.warm_concurrent.specs.Clauses.{AnsweredByShard, CallFails}
+use Rattle.warm_concurrent.specs.Copying.{CopiesFirst}
+use Rattle.warm_concurrent.specs.Given.{Log}
+use Rattle.warm_concurrent.specs.Opening.{AreClosed, AreFirst, AreHalved, AreSplit}
+use Rattle.warm_concurrent.specs.Opening.{PassesAreJoined}
+use Rattle.warm_concurrent.specs.Rights.{HasWholeRight}
+use Rattle.warm_concurrent.specs.ShardSteps.{ShardState, ShardStep}
+use Rattle.warm_concurrent.specs.Whole.{AbsorbsFirst, DoneFirst, RaisesFirst, TakesFirst}
+
+-- Pools
+
+-- the pins of all frames of a pool: of that of a node, and of those of these nodes together
+abbrev pub pins_in : List FrameView → ℕ
+pins_in frames = sum_by (λ f. f.fixes) frames
+
+abbrev pub pool_pins : NodeState → ℕ
+pool_pins node = pins_in (view_of node.pool).frames
+
+abbrev pub all_pins : List NodeState → ℕ
+all_pins nodes = sum_by pool_pins nodes
+
+-- no frame without a page is pinned: so it is in every pool
+abbrev pub FreeAreUnpinned : NodeState → Type 0
+FreeAreUnpinned node = (i : ℕ) → (frame_at (view_of node.pool) i).page ≡ None
+    → (frame_at (view_of node.pool) i).fixes ≡ 0
+
+-- no page of any of these nodes is pinned
+abbrev pub NoneIsPinned : List NodeState → Type 0
+NoneIsPinned nodes = (i : ℕ) → i < length nodes → IsUnfixed (view_of (shard_at nodes i).pool)
+
+-- Calls
+
+-- how many pins a call with this reply gave, and how many it removed
+abbrev pub pin_by : ShardCall → ShardReply → ℕ
+pin_by (Pin page) (Pinned slot) = 1
+pin_by (PinZeroed page) (Pinned slot) = 1
+pin_by call reply = 0
+
+abbrev pub unpin_by : ShardCall → ShardReply → ℕ
+unpin_by (Unpin slot) Done = 1
+unpin_by call reply = 0
+
+-- how many these calls gave, and how many they removed
+abbrev pub pins_by : Log → ℕ
+pins_by calls = sum_by (λ e. pin_by e.call e.reply) calls
+
+abbrev pub unpins_by : Log → ℕ
+unpins_by calls = sum_by (λ e. unpin_by e.call e.reply) calls
+
+-- these calls lead from so many pins to so many
+abbrev pub LeadsTo : ℕ → Log → ℕ → Type 0
+LeadsTo before calls after = after + unpins_by calls ≡ before + pins_by calls
+
+-- One shard
+
+-- the pins of its pool are those with which it opened and those that its calls gave, less those
+-- that they removed
+abbrev pub PinsAreGiven : Type 0
+PinsAreGiven = (opening last : ShardState) (calls : Log) → FreeAreUnpinned opening.node
+    → Runs ShardStep opening calls last
+    → LeadsTo (pool_pins opening.node) calls (pool_pins last.node)
+
+-- One thread
+
+-- the calls of a pass, and of those that were ended into it
+abbrev pub calls_held : Known → Log
+calls_held known = known.mine ++ flat_map (λ e. e.calls) known.ended
+
+-- those of a thread, of all shards
+abbrev pub thread_calls : List ShardPass → Log
+thread_calls passes = flat_map (λ p. calls_held p.view) passes
+
+-- the count of a thread is right: its calls lead to it
+abbrev pub IsCounted : AttachedView → Type 0
+IsCounted thread = LeadsTo 0 (thread_calls thread.passes) thread.pins
+
+-- the calls that a thread has since gave so many pins, and removed so many
+pub record HasPinned (given removed : ℕ) (old new : List ShardPass) : Type 0 where
+  pub pins : pins_by (thread_calls new) ≡ pins_by (thread_calls old) + given
+  pub unpins : unpins_by (thread_calls new) ≡ unpins_by (thread_calls old) + removed
+
+-- A call of one shard gives and removes what its reply says, and none if it is refused. Calls of
+-- several shards give and remove none: those too that stop at a shard, which are such calls and one
+-- that is refused.
+pub record CallsPin (old new : List ShardPass) : Type 0 where
+  pub called : (i : ℕ) (call : ShardCall) (reply : ShardReply) → i < length old
+      → AnsweredByShard old i call reply new
+      → HasPinned (pin_by call reply) (unpin_by call reply) old new
+  pub refused : (i : ℕ) (call : ShardCall) (why : SharedFault) → i < length old
+      → CallFails old i call why new → HasPinned 0 0 old new
+  pub absorbed : (batch : List Reference) (k : ℕ) → AbsorbsFirst batch k old new
+      → HasPinned 0 0 old new
+  pub raised : (time k : ℕ) → RaisesFirst time k old new → HasPinned 0 0 old new
+  pub taken : (message : Message) (k : ℕ) → TakesFirst message k old new → HasPinned 0 0 old new
+  pub done : (call : ShardCall) (k : ℕ) → unpin_by call Done ≡ 0 → DoneFirst call k old new
+      → HasPinned 0 0 old new
+  pub offered : (offers : List Offered) (k : ℕ) → OffersFirst offers k old new
+      → HasPinned 0 0 old new
+  pub answered : (request : ℕ) (parts : List (List Message)) (k : ℕ)
+      → AnswersFirst request parts k old new → HasPinned 0 0 old new
+  pub copied : (copies : List HistoryView) (k : ℕ) → CopiesFirst copies k old new
+      → HasPinned 0 0 old new
+
+-- A count that was right and changes as the calls do is right. So it stays right from `share` on:
+-- what threads call, as they are attached, and as they are detached.
+pub record PinsAreCounted : Type 0 where
+  pub counts : (given removed : ℕ) (old new : AttachedView) → IsCounted old
+      → HasPinned given removed old.passes new.passes
+      → new.pins + removed ≡ old.pins + given → IsCounted new
+  pub calls : (old new : List ShardPass) → CallsPin old new
+  pub shared : (turns : List ShardTurn) (passes : List ShardPass) → AreFirst turns passes
+      → IsCounted (record { passes = passes; pins = 0 })
+  pub halved : (old new : List ShardPass) → AreHalved old new → HasPinned 0 0 old new
+  pub attached : (old new : List ShardPass) → AreSplit old new
+      → IsCounted (record { passes = new; pins = 0 })
+  pub detached : (old new : List ShardPass) (other : AttachedView)
+      → length other.passes ≡ length old → IsCounted other → other.pins ≡ 0
+      → PassesAreJoined old other.passes new
+      → (pins : ℕ) × HasPinned pins pins old new
+
+-- A close
+
+-- the nodes with which the shards opened
+abbrev pub opened_nodes : List ShardTurn → List NodeState
+opened_nodes turns = map (λ t. t.opening.node) turns
+
+-- The thread that is left closes the shards: together the nodes have the pins with which they
+-- opened, and as many as the thread counts.
+abbrev pub PinsComeBack : Type 0
+PinsComeBack = (turns : List ShardTurn) (thread : AttachedView) (nodes : List NodeState)
+    → ((i : ℕ) → i < length turns → FreeAreUnpinned (shard_at (opened_nodes turns) i))
+    → AreOf turns thread.passes → IsCounted thread → HasWholeRight (length turns) thread.passes
+    → AreClosed turns thread.passes (map (λ n. Ok n) nodes)
+    → all_pins nodes ≡ all_pins (opened_nodes turns) + thread.pins
+
+-- If no page was pinned when the shards opened, and the thread that closes them has the whole right
+-- to and a right count, each node is given back, and no page is pinned.
+abbrev pub ClosesUnpinned : List ShardTurn → AttachedView → List (Result NodeState Busy) → Type 0
+ClosesUnpinned turns thread results = NoneIsPinned (opened_nodes turns)
+    → HasWholeRight (length turns) thread.passes → IsCounted thread
+    → (nodes : List NodeState) × (results ≡ map (λ n. Ok n) nodes) × NoneIsPinned nodes
+
+-- Two threads, used
+
+-- A thread shares shards of which no page is pinned, and attaches another. Each pins a page, and
+-- unpins the slot of the other. The other is detached into the first, which closes the shards: each
+-- node is given back, and no page is pinned.
+abbrev pub TwoThreadsUnpin : Type 0
+TwoThreadsUnpin = (turns : List ShardTurn) (first here there : List ShardPass)
+    (mine yours done other all : List ShardPass) (i j : ℕ) (p q : PageId) (a b : Slot)
+    (results : List (Result NodeState Busy)) → NoneIsPinned (opened_nodes turns)
+    → AreFirst turns first → AreHalved first here → AreSplit first there → i < length turns
+    → j < length turns → AnsweredByShard here i (Pin p) (Pinned a) mine
+    → AnsweredByShard there j (Pin q) (Pinned b) yours
+    → AnsweredByShard mine j (Unpin b) Done done → AnsweredByShard yours i (Unpin a) Done other
+    → PassesAreJoined done other all → AreOf turns all → AreClosed turns all results
+    → (nodes : List NodeState) × (results ≡ map (λ n. Ok n) nodes) × NoneIsPinned nodes
