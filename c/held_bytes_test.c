@@ -19,19 +19,19 @@ static void fill(warm *handle, uint64_t no) {
     pin_twice(handle, no);
 }
 
-static void open_wide(warm *handle, size_t shards, size_t frames) {
+static void open_wide(warm *handle, size_t shards, size_t frames, size_t size) {
     const warm_options options = {.size = sizeof options,
         .replica = 1,
         .shards = shards,
         .frames = frames,
-        .page_size = SIZE,
+        .page_size = size,
         .devices = devices,
         .device_count = FAKE_DEVICES};
     OK(warm_open(handle, &options));
 }
 
 static void open_two(warm *first, warm *second, size_t shards, size_t frames) {
-    open_wide(first, shards, frames);
+    open_wide(first, shards, frames, SIZE);
     OK(warm_attach(first, second));
 }
 
@@ -81,11 +81,48 @@ static bool is_held(warm *by, warm_slot slot, uint64_t no) {
 
 static bool is_stale(warm *by, warm_slot slot) {
     uint8_t got[SIZE + 1];
-    const uint8_t *bytes = NULL;
+    const uint8_t *bytes = got;
     int status = warm_bytes(by, slot, &bytes);
-    MUST(status == read_bytes(by, slot, 0, 1, got) && bytes == NULL && got[0] == 0xEE);
+    MUST(status == read_bytes(by, slot, 0, 1, got) && bytes == got && got[0] == 0xEE);
     MUST(status == read_bytes(by, slot, SIZE + 1, 1, got)); /* which is looked at later */
     return status == WARM_STALE_SLOT;
+}
+
+/* The slot of a held page is stale where any of its bits is another, but those of hit. */
+static void all_bits_count(warm *by, warm_slot slot) {
+    const uint8_t *bytes;
+    for (int bit = 0; bit < 64; bit++) {
+        warm_slot generation = slot, index = slot, shard = slot, hit = slot;
+        generation.generation ^= UINT64_C(1) << bit;
+        index.index ^= UINT32_C(1) << bit % 32;
+        shard.shard ^= (uint16_t)(1u << bit % 16);
+        hit.hit ^= (uint16_t)(1u << bit % 16);
+        MUST(is_stale(by, generation) && is_stale(by, index) && is_stale(by, shard));
+        OK(warm_bytes(by, hit, &bytes));
+    }
+}
+
+/* A page has as many bytes as the replica was opened with. */
+static void test_sizes(void) {
+    for (size_t size = 1; size <= SIZE; size += 9) {
+        warm first = {0}, second = {0};
+        uint8_t got[SIZE + 1], bytes[SIZE];
+        warm_slot slot;
+        memset(bytes, 7, SIZE);
+        open_wide(&first, 1, 2, size);
+        OK(warm_attach(&first, &second));
+        OK(warm_pin_zeroed(&first, page_at(3), &slot));
+        OK(warm_write(&first, slot, 0, bytes, size));
+        OK(warm_unpin(&first, slot));
+        pin_twice(&first, 3);
+        slot = hold_page(&second, 3);
+        OK(read_bytes(&second, slot, 0, size, got));
+        MUST(got[size - 1] == 7 && got[size] == 0xEE);
+        MUST(read_bytes(&second, slot, 0, size + 1, got) == WARM_OUT_OF_PAGE && got[0] == 0xEE);
+        MUST(read_bytes(&second, slot, size + 1, 0, got) == WARM_OUT_OF_PAGE);
+        OK(warm_unpin(&second, slot));
+        close_two(&first, &second);
+    }
 }
 
 /* The node is asked for the handle that does not hold the page. */
@@ -147,6 +184,7 @@ static void test_shards(void) {
     beside.shard = 1;
     MUST(slot.index == 0 && slot.shard == 0 && is_held(&second, slot, 0));
     MUST(is_stale(&second, beside));
+    all_bits_count(&second, slot);
     warm_slot other = hold_page(&second, 1);
     MUST(other.index == 0 && other.generation == slot.generation && other.shard == 1);
     MUST(is_held(&second, beside, 1) && is_held(&second, slot, 0));
@@ -229,7 +267,7 @@ static void test_alone(void) {
     warm handle = {0};
     uint8_t got[SIZE + 1];
     const uint8_t *bytes = NULL;
-    open_wide(&handle, 2, 4);
+    open_wide(&handle, 2, 4, SIZE);
     for (uint64_t no = 0; no < 2; no++) fill(&handle, no);
     warm_slot slot = hold_page(&handle, 1);
     MUST(is_held(&handle, slot, 1) && slot.shard == 1);
@@ -322,6 +360,7 @@ int main(void) {
     test_ends();
     test_records();
     test_shards();
+    test_sizes();
     test_generations();
     test_holders();
     test_both();

@@ -272,7 +272,8 @@ int warm_write(warm *handle, warm_slot slot, size_t at, const void *bytes, size_
 /* Writes a pointer to the page_size bytes of the slot's page. It holds while any handle has the
    page pinned.
    Refused: WARM_STALE_SLOT.
-   Caller: reads them only then, while no other thread writes to the page. */
+   Caller: reads them only then, while no other thread writes to the page, which a latch of the
+   caller sees to: this call orders no memory. */
 int warm_bytes(warm *handle, warm_slot slot, const uint8_t **bytes);
 
 /* The same for writing; the page is dirty now.
