@@ -72,13 +72,14 @@ pub fn all_nodes_come_back()
     ensures { NodesComeBack }
 {}
 
-/// The pins of a shard's pool are those with which it opened, one more for each `Pin` and `PinZeroed`
-/// that it answered `Pinned`, and one less for each `Unpin` that it answered `Done`, whichever
-/// threads made these calls. The count of a thread is that of its calls, and of those of the threads
-/// that were detached into it. So if one thread is left and closes the shards, their nodes together
-/// have the pins with which they opened, and as many as that thread counts. [`crate::SharedShards::close`]
-/// refuses it unless it counts none. So two threads pin a page each, each unpins what the other
-/// pinned, one is detached into the other, which closes the shards: no page is pinned.
+/// The pins of a shard's pool are those with which it opened, one more for each pin (`Pin`,
+/// `PinZeroed`, `PinFilled`) that it answered `Pinned`, and one less for each `Unpin` that it
+/// answered `Done`, whichever threads made these calls. The count of a thread is that of its calls,
+/// and of those of the threads that were detached into it. So if one thread is left and closes the
+/// shards, their nodes together have the pins with which they opened, and as many as that thread
+/// counts. [`crate::SharedShards::close`] refuses it unless it counts none. So two threads pin a
+/// page each, each unpins what the other pinned, one is detached into the other, which closes the
+/// shards: no page is pinned.
 pub fn pins_are_counted()
     ensures shard { PinsAreGiven }
     ensures threads { PinsAreCounted }
