@@ -10,22 +10,24 @@ use Rattle.warm_gossip.specs.State.{NodeState}
 use Rattle.warm_shards.specs.Shards.{no_shard, shard_at}
 use Rattle.warm_concurrent.specs.Attached.{AreOf, AttachedView, Known, ShardPass, ShardTurn, known_of, no_turn, shard_pass, shard_turn}
 use Rattle.warm_concurrent.specs.Opening.{AreClosed, ClosesShard}
-use Rattle.warm_concurrent.specs.Pins.{ClosesUnpinned, FreeAreUnpinned, NoneIsPinned, PinsComeBack, all_pins, calls_held, opened_nodes, pin_by, pins_in, pool_pins, unpin_by}
+use Rattle.warm_concurrent.specs.Pins.{ClosesUnpinned, IsCounted, NoneIsPinned, PinsComeBack, all_pins, calls_held, opened_nodes, pin_by, pins_in, pool_pins, unpin_by}
 use Rattle.warm_concurrent.proofs.Headline.{closed_node}
 use Rattle.warm_concurrent.proofs.LawsHold.{below}
 use Rattle.warm_concurrent.proofs.LogPins.{log_total, total}
+use Rattle.warm_concurrent.specs.Rights.{HasWholeRight}
+use Rattle.warm_concurrent.proofs.PoolPins.{IsFree, pool_free}
 use Rattle.warm_concurrent.proofs.Rights.{closed_gives_back}
-use Rattle.warm_concurrent.proofs.StepPins.{pins_are_given}
+use Rattle.warm_concurrent.proofs.StepPins.{run_moves}
 use Rattle.warm_concurrent.proofs.ThreadPins.{thread_is, weight}
 
 -- one shard: its log has the calls that the pass holds, and no others
 closed_pins : (turn : ShardTurn) (known : Known) (node : NodeState)
-    → FreeAreUnpinned turn.opening.node → IsWhole known.share → ClosesShard turn known (Ok node)
+    → IsFree (view_of turn.opening.node.pool) → IsWhole known.share → ClosesShard turn known (Ok node)
     → pool_pins node + total unpin_by (calls_held known)
     ≡ pool_pins turn.opening.node + total pin_by (calls_held known)
 closed_pins turn known node free right (last, same, is) =
     let log = is.history in
-    let run = pins_are_given turn.opening last log free is.reaches in
+    let run = run_moves turn.opening last log free is.reaches in
     let given = log_total pin_by known.number known.mine log known.ended is.own is.others (λ a e at. (is.legal.others a e at).1) is.legal.apart (is.all right) in
     let removed = log_total unpin_by known.number known.mine log known.ended is.own is.others (λ a e at. (is.legal.others a e at).1) is.legal.apart (is.all right) in
     let here : pool_pins last.node ≡ pool_pins node = ap pool_pins same in
@@ -58,8 +60,13 @@ opened_at : (turns : List ShardTurn) (i : ℕ) → i < length turns
     → shard_at (opened_nodes turns) i ≡ (shard_turn turns i).opening.node
 opened_at turns i lt = get_or-map (λ t. t.opening.node) turns i no_turn no_shard lt
 
-pub pins_come_back : PinsComeBack
-pins_come_back turns thread nodes free are counted right closed =
+-- where no frame without a page was pinned
+come_back : (turns : List ShardTurn) (thread : AttachedView) (nodes : List NodeState)
+    → ((i : ℕ) → i < length turns → IsFree (view_of (shard_turn turns i).opening.node.pool))
+    → AreOf turns thread.passes → IsCounted thread → HasWholeRight (length turns) thread.passes
+    → AreClosed turns thread.passes (map (λ n. Ok n) nodes)
+    → all_pins nodes ≡ all_pins (opened_nodes turns) + thread.pins
+come_back turns thread nodes free are counted right closed =
     let ps = thread.passes in
     let back : length nodes ≡ length turns = sym (length-map nodes (λ n. let r : Result NodeState Busy = Ok n in r)) ∙ closed.count in
     let long : length (opened_nodes turns) ≡ length turns = length-map turns (λ t. t.opening.node) in
@@ -67,13 +74,16 @@ pins_come_back turns thread nodes free are counted right closed =
     λ i lt.
     let less : i < length turns = omega (arith, lt, are.count) in
     let is = opened_at turns i less in
-    let own : FreeAreUnpinned (shard_turn turns i).opening.node = subst FreeAreUnpinned is (free i less) in
-    let one = closed_pins (shard_turn turns i) (known_of ps i) (shard_at nodes i) own (right i less) (closed_node turns ps nodes i closed less) in
+    let one = closed_pins (shard_turn turns i) (known_of ps i) (shard_at nodes i) (free i less) (right i less) (closed_node turns ps nodes i closed less) in
     let opened : pool_pins (shard_at (opened_nodes turns) i) ≡ pool_pins (shard_turn turns i).opening.node = ap pool_pins is in
     omega (arith, one, opened)
     in
     let sums = all_closed nodes (opened_nodes turns) ps (back ∙ sym are.count) (long ∙ sym are.count) each in
     omega (arith, sums, counted, thread_is pin_by ps, thread_is unpin_by ps)
+
+pub pins_come_back : PinsComeBack
+pins_come_back turns thread nodes pools are counted right closed =
+    come_back turns thread nodes (λ i lt. pool_free (shard_turn turns i).opening.node.pool (pools i lt)) are counted right closed
 
 -- ---- none
 
@@ -106,8 +116,8 @@ closes_unpinned turns thread results are no_pins closed none right counted =
     let opened = opened_nodes turns in
     let long : length opened ≡ length turns = length-map turns (λ t. t.opening.node) in
     let all : AreClosed turns thread.passes (map (λ n. Ok n) nodes) = subst (λ (rs : List (Result NodeState Busy)). AreClosed turns thread.passes rs) back.1 closed in
-    let free : (i : ℕ) → i < length turns → FreeAreUnpinned (shard_at opened i) = λ i lt j page. none i (omega (arith, lt, long)) j in
-    let sums = pins_come_back turns thread nodes free are counted right all in
+    let free : (i : ℕ) → i < length turns → IsFree (view_of (shard_turn turns i).opening.node.pool) = λ i lt. subst (λ (n : NodeState). IsFree (view_of n.pool)) (opened_at turns i lt) (λ j page. none i (omega (arith, lt, long)) j) in
+    let sums = come_back turns thread nodes free are counted right all in
     let before : all_pins opened ≡ 0 = no_sum pool_pins no_shard opened (λ i lt. no_sum (λ f. f.fixes) no_frame (view_of (shard_at opened i).pool).frames (λ j less. none i lt j)) in
     let after : NoneIsPinned nodes = λ i lt j.
     let one = get_or-le-sum_by pool_pins nodes i no_shard lt in

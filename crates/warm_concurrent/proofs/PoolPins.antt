@@ -10,12 +10,13 @@ use Rattle.warm_pool.specs.declared.fault.PoolFault.TheVariants.{NoDevice, NoPag
 use Rattle.warm_pool.specs.declared.slot.Slot.{Slot}
 use Rattle.warm_pool.specs.Forgetting.{Forgets}
 use Rattle.warm_pool.specs.Frames.{FrameState, vacated}
-use Rattle.warm_pool.specs.Pinning.{AddsFix, LoadRefused, PinRefused, PutRefused, PutsIn, unpinned}
+use Rattle.warm_pool.specs.Pinning.{AddsFix, LoadRefused, Pinned as PinnedIn, PinRefused, PutRefused, PutsIn, unpinned}
 use Rattle.warm_pool.specs.Retiring.{RetireRefused, Retired, emptied}
-use Rattle.warm_pool.specs.State.{PoolState}
+use Rattle.warm_pool.specs.State.{IsPool, PoolState}
 use Rattle.warm_pool.specs.View.{FrameView, Holds, PoolView, frame_at, frame_view, view_of}
 use Rattle.warm_pool.specs.WritingBack.{is_from, is_on}
 use Rattle.warm_pool.specs.Zeroing.{PinnedZeroed}
+use Rattle.warm_pool.proofs.Bytes.{frame_seen}
 use Rattle.warm_pool.proofs.Slots.{at_set}
 use Rattle.warm_gossip.specs.declared.call.Call.{Call}
 use Rattle.warm_gossip.specs.declared.call.Call.TheVariants.{Absorb, Send, Offer, Receive, Horizon, Pin, Unpin, Read, Write, Victim, WarmList, WarmStep, Restart}
@@ -36,6 +37,12 @@ AreFree fs = (i : ℕ) → (get_or fs i no_frame).page ≡ None → (get_or fs i
 
 abbrev pub IsFree : PoolView → Type 0
 IsFree v = AreFree v.frames
+
+-- so it is in every pool
+pub pool_free : (s : PoolState) → IsPool s → IsFree (view_of s)
+pool_free s pool i page =
+    let seen = frame_seen s i in
+    ap (λ (f : FrameView). f.fixes) seen ∙ (pool.bare i (sym (ap (λ (f : FrameView). f.page) seen) ∙ page)).1
 
 -- so many pins were given, and so many removed, and still no frame without a page is pinned
 pub record Moves (given removed : ℕ) (v w : PoolView) : Type 0 where
@@ -88,12 +95,16 @@ puts_moves h v w p n slot puts free =
     let was : (frame_at v slot.index).fixes ≡ 0 = elim puts.to_load [ inl least ↦ free slot.index least.free | inr victim ↦ victim.unfixed ] in
     set_moves n 0 v w slot.index f there (ap (λ (x : PoolView). x.frames) puts.becomes) (omega (arith, was)) (λ none. let no : Some p ≡ None = none in absurd (cc)) free
 
+pub pinned_moves : (h : HistoryView) (v w : PoolView) (p : PageId) (slot : Slot)
+    → PinnedIn h v p slot w → IsFree v → Moves 1 0 v w
+pinned_moves h v w p slot pinned free = elim pinned.1 [
+  | inl adds ↦ adds_moves v w p slot adds free
+  | inr puts ↦ puts_moves h v w p 1 slot puts free
+]
+
 pub pin_moves : (old new : NodeView) (p : PageId) (slot : Slot) → Step old (Pin p) (Pinned slot) new
     → IsFree old.pool → Moves 1 0 old.pool new.pool
-pin_moves old new p slot step free = elim step.1.1 [
-  | inl adds ↦ adds_moves old.pool new.pool p slot adds free
-  | inr puts ↦ puts_moves old.history old.pool new.pool p 1 slot puts free
-]
+pin_moves old new p slot step free = pinned_moves old.history old.pool new.pool p slot step.1 free
 
 pub zeroed_moves : (h : HistoryView) (v w : PoolView) (p : PageId) (slot : Slot)
     → PinnedZeroed h v p slot w → IsFree v → Moves 1 0 v w

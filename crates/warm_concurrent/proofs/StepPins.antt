@@ -18,13 +18,15 @@ use Rattle.warm_gossip.specs.declared.fault.NodeFault.{NodeFault}
 use Rattle.warm_gossip.specs.declared.fault.NodeFault.TheVariants.{Memory, Pool, StaleSlot}
 use Rattle.warm_gossip.specs.Clauses.{NodeWriteBackFails, OfPool, SameView}
 use Rattle.warm_gossip.specs.State.{NodeState, NodeView, node_view}
+use Rattle.warm_machine.specs.Runs.{Runs}
 use Rattle.warm_concurrent.specs.declared.call.ShardCall.{ShardCall}
 use Rattle.warm_concurrent.specs.declared.call.ShardCall.TheVariants.{Absorb, Answer, Change, CopyHistory, FlushDevice, ForgetPages, Look, Offer, Pin, PinFilled, PinZeroed, Raise, Read, Retire, Send, SendSince, TakeIn, Unpin, Victim, WarmList, WarmNext, WarmStep, Write, WriteBack, WritePage, WritePages, WriteSome}
 use Rattle.warm_concurrent.specs.declared.call.ShardReply.{ShardReply}
 use Rattle.warm_concurrent.specs.declared.call.ShardReply.TheVariants.{Answers, Changed, Copied, Dirty, Done, Foreign, Loaded, Looked, Page, Pinned, Portion, Refused, WasDirty}
-use Rattle.warm_concurrent.specs.Pins.{PinsAreGiven, pin_by, pool_pins, unpin_by}
+use Rattle.warm_concurrent.specs.Given.{Log}
+use Rattle.warm_concurrent.specs.Pins.{LeadsTo, PinsAreGiven, pin_by, pool_pins, unpin_by}
 use Rattle.warm_concurrent.specs.ShardSteps.{CallGoes, NodeGoes, ShardState, ShardStep, asked_of, node_reply_of}
-use Rattle.warm_concurrent.proofs.PoolPins.{IsCalm, IsFree, Moves, calm_same, forgotten_moves, pin_moves, refused_same, retire_refused, retired_moves, same_moves, then_same, unpin_moves, warm_moves, zeroed_moves}
+use Rattle.warm_concurrent.proofs.PoolPins.{IsCalm, IsFree, Moves, calm_same, forgotten_moves, pin_moves, pool_free, refused_same, retire_refused, retired_moves, same_moves, then_same, unpin_moves, warm_moves, zeroed_moves}
 
 -- the pins of a node's pool changed so
 abbrev NodeMoves : ℕ → ℕ → NodeState → NodeState → Type 0
@@ -227,11 +229,16 @@ shard_moves : (o y : ShardState) (c : ShardCall) (r : ShardReply) → IsFree (vi
 shard_moves o y c Foreign free step = foreign_moves o.node y.node c free (ap (λ (s : ShardState). s.node) step.1)
 shard_moves o y c r free step = goes_moves o.node y.node c r free step.2
 
-pub pins_are_given : PinsAreGiven
-pins_are_given o z [] free runs = ap (λ (s : ShardState). pool_pins s.node + 0) (sym runs)
-pins_are_given o z (e ∷ es) free runs =
+-- where no frame without a page is pinned
+pub run_moves : (o z : ShardState) (log : Log) → IsFree (view_of o.node.pool)
+    → Runs ShardStep o log z → LeadsTo (pool_pins o.node) log (pool_pins z.node)
+run_moves o z [] free runs = ap (λ (s : ShardState). pool_pins s.node + 0) (sym runs)
+run_moves o z (e ∷ es) free runs =
     let one = shard_moves o runs.0 e.call e.reply free runs.1 in
-    let rest = pins_are_given runs.0 z es one.free runs.2 in
+    let rest = run_moves runs.0 z es one.free runs.2 in
     let given = sum_by-cons (λ x. pin_by x.call x.reply) e es in
     let removed = sum_by-cons (λ x. unpin_by x.call x.reply) e es in
     omega (arith, one.count, rest, given, removed)
+
+pub pins_are_given : PinsAreGiven
+pins_are_given o z log pool runs = run_moves o z log (pool_free o.node.pool pool) runs

@@ -1,28 +1,33 @@
 -- Pins: which calls give and remove them, and how many are left.
 --
--- A frame counts its pins, and a slot names a frame. Neither says who pinned it, and a thread may
--- unpin what another pinned. So what holds is a sum: the pins of all pools are those with which the
--- shards opened, and the counts of all threads together. It is three laws.
+-- A frame has a pin count, and a slot names a frame. Neither says who pinned it: a thread may unpin
+-- what another pinned. So what holds is a sum: the pools together have the pins with which the
+-- shards opened, and as many as all threads count. It is three laws.
 --
--- Of a shard (`PinsAreGiven`): a legal list of its calls leads from the pins of its pool to those
--- pins, one more for each pin that it answered, and one less for each unpin.
+-- Of a shard (`PinsAreGiven`): a legal list of its calls leads from the pins of its pool to these,
+-- one more for each pin and one less for each unpin that it answered.
 --
--- Of a thread (`PinsAreCounted`): its count is that of its calls of all shards, and of those of the
--- threads that were detached into it. `detach` refuses a thread whose count is not 0.
+-- Of a thread (`PinsAreCounted`): its count is that of its calls, of all shards, and of the calls of
+-- the threads that were detached into it.
 --
--- Of a close (`PinsComeBack`), by the thread that is left: the log of a shard has just these calls.
--- So the nodes together have the pins that they opened with, and as many as the thread counts.
--- `close` refuses a thread whose count is not 0. Then no page is pinned, if none was when the shards
--- opened (`ClosesUnpinned`, a clause of `close`).
+-- Of a close (`PinsComeBack`) by the thread that is left: the log of each shard has just these
+-- calls. So the nodes together have the pins with which they opened, and as many as the thread
+-- counts.
 --
--- A look and a change pin and unpin in one turn: they count as neither. For example, A pins p, and B
--- pins q: the counts are 1 and 1, and the pools have 2 pins. B unpins the slot of A: the counts are
--- 1 and 0, and q alone is pinned. A, refused as it unpins its own slot, cannot be detached until it
--- has unpinned that of B (`proofs/PinExamples.antt`).
-use Rattle.std.specs.Prelude.{◌≡◌, ℕ, ◌+◌, ◌<◌, List, ◌++◌, length, map, None, Result, Ok}
+-- `detach` and `close` refuse a thread whose count is not 0 with `PinsHeld`, and change nothing. So
+-- after a close no page is pinned, if none was when the shards opened (`ClosesUnpinned`, a clause of
+-- `close`).
+--
+-- A look and a change pin and unpin in one turn, and count as neither. For example, A pins p, and B
+-- pins q: each counts 1, and the pools have 2 pins. B unpins the slot of A: A counts 1, B counts 0,
+-- and q alone is pinned. The slot of A is stale, and A cannot be detached, until it unpins the slot
+-- of B. Then no page is pinned. `proofs/PinExamples.antt` computes the counts, and `TwoThreadsUnpin`
+-- says it of any pages, slots and shards.
+use Rattle.std.specs.Prelude.{◌≡◌, ℕ, ◌+◌, ◌<◌, List, ◌++◌, length, map, Result, Ok}
 use Rattle.std.specs.List.{flat_map, sum_by}
 use Rattle.warm_turn.specs.declared.fault.Busy.{Busy}
-use Rattle.warm_pool.specs.View.{FrameView, IsUnfixed, frame_at, view_of}
+use Rattle.warm_pool.specs.State.{IsPool}
+use Rattle.warm_pool.specs.View.{FrameView, IsUnfixed, view_of}
 use Rattle.warm_frames.specs.declared.message.Message.{Message}
 use Rattle.warm_machine.specs.Runs.{Runs}
 use Rattle.warm_pool.specs.declared.slot.Slot.{Slot}
@@ -40,6 +45,7 @@ use Rattle.warm_concurrent.specs.declared.call.ShardReply.TheVariants.{Done, Pin
 use Rattle.warm_concurrent.specs.declared.fault.SharedFault.{SharedFault}
 use Rattle.warm_concurrent.specs.Answering.{AnswersFirst, OffersFirst}
 use Rattle.warm_concurrent.specs.Attached.{AreOf, AttachedView, Known, ShardPass, ShardTurn}
+use Rattle.warm_concurrent.specs.Attached.{shard_turn}
 use Rattle.warm_concurrent.specs.Clauses.{AnsweredByShard, CallFails}
 use Rattle.warm_concurrent.specs.Copying.{CopiesFirst}
 use Rattle.warm_concurrent.specs.Given.{Log}
@@ -60,11 +66,6 @@ pool_pins node = pins_in (view_of node.pool).frames
 
 abbrev pub all_pins : List NodeState → ℕ
 all_pins nodes = sum_by pool_pins nodes
-
--- no frame without a page is pinned: so it is in every pool
-abbrev pub FreeAreUnpinned : NodeState → Type 0
-FreeAreUnpinned node = (i : ℕ) → (frame_at (view_of node.pool) i).page ≡ None
-    → (frame_at (view_of node.pool) i).fixes ≡ 0
 
 -- no page of any of these nodes is pinned
 abbrev pub NoneIsPinned : List NodeState → Type 0
@@ -99,7 +100,7 @@ LeadsTo before calls after = after + unpins_by calls ≡ before + pins_by calls
 -- the pins of its pool are those with which it opened and those that its calls gave, less those
 -- that they removed
 abbrev pub PinsAreGiven : Type 0
-PinsAreGiven = (opening last : ShardState) (calls : Log) → FreeAreUnpinned opening.node
+PinsAreGiven = (opening last : ShardState) (calls : Log) → IsPool opening.node.pool
     → Runs ShardStep opening calls last
     → LeadsTo (pool_pins opening.node) calls (pool_pins last.node)
 
@@ -171,7 +172,7 @@ opened_nodes turns = map (λ t. t.opening.node) turns
 -- opened, and as many as the thread counts.
 abbrev pub PinsComeBack : Type 0
 PinsComeBack = (turns : List ShardTurn) (thread : AttachedView) (nodes : List NodeState)
-    → ((i : ℕ) → i < length turns → FreeAreUnpinned (shard_at (opened_nodes turns) i))
+    → ((i : ℕ) → i < length turns → IsPool (shard_turn turns i).opening.node.pool)
     → AreOf turns thread.passes → IsCounted thread → HasWholeRight (length turns) thread.passes
     → AreClosed turns thread.passes (map (λ n. Ok n) nodes)
     → all_pins nodes ≡ all_pins (opened_nodes turns) + thread.pins

@@ -14,7 +14,7 @@ use warm_devices::PageDevice;
 use warm_gossip::{Node, NodeFault};
 use warm_turn::{Busy, Pass, Turn};
 
-/// A thread that was not detached, since it holds pins: refusal 21, `PinsHeld`. Nothing has
+/// A thread that was not detached, since it counts pins: refusal 21, `PinsHeld`. Nothing has
 /// changed.
 #[derive(Drop)]
 pub struct NotDetached<D: PageDevice + Send> {
@@ -129,7 +129,8 @@ impl<D: PageDevice + Send> SharedShards<D> {
     /// Ends what another thread has into what this one has, which then has seen what both had.
     ///
     /// # Errors
-    /// The other holds pins; it is given back. Nothing has changed.
+    /// The other's count of pins is not 0; it is given back. Nothing has changed. The count alone
+    /// decides: where other threads removed the other's pins, it may remove as many of theirs.
     pub fn detach(
         &self,
         attached: &mut Attached<D>,
@@ -157,12 +158,12 @@ impl<D: PageDevice + Send> SharedShards<D> {
     ///
     /// `Busy` in place of a node: fewer calls of the shard were answered than begun, and the node
     /// is lost. It does not occur where all other threads were detached into this one: then the
-    /// thread has the whole right to close. No page of these nodes is pinned then, if none was when
-    /// the shards were shared.
+    /// thread has the whole right to close, and no page of the nodes is pinned, if none was when the
+    /// shards were shared.
     ///
     /// # Errors
-    /// In this order: `PinsHeld`, where this thread holds pins; `Node(Memory)`, where an allocation
-    /// fails. Nothing has changed, and both are given back.
+    /// In this order: `PinsHeld`, where this thread's count of pins is not 0; `Node(Memory)`, where
+    /// an allocation fails. Nothing has changed, and both are given back.
     #[tactic(auto, using(crate::proofs::ClosePins::closes_unpinned))]
     pub fn close(
         self,

@@ -243,7 +243,8 @@ impl<D: PageDevice + Send> SharedShards<D> {
         Ok(ShardSlot { shard, slot })
     }
 
-    /// Removes a pin: one turn of the slot's shard, in which the call `Unpin` is answered.
+    /// Removes a pin: one turn of the slot's shard, in which the call `Unpin` is answered. Any thread
+    /// may have given it: a pin has no owner, and a thread may remove as many as it counts.
     ///
     /// # Errors
     /// In this order: `NoPins`, where this thread holds no pin, and `Node(StaleSlot)`, where there

@@ -57,7 +57,7 @@ impl<D: PageDevice + Send> Model for Attached<D> {
 }
 
 impl<D: PageDevice + Send> Attached<D> {
-    /// How many pins are held: the pins that succeeded, less the unpins that did.
+    /// How many pins this thread counts: the pins that succeeded, less the unpins that did.
     pub fn pins(&self) -> u64
         ensures { result ≡ self.now.pins }
     {
