@@ -72,7 +72,7 @@ impl PageDevice for Blank {
     }
 }
 
-fn blank() -> Blank {
+fn new_blank() -> Blank {
     Blank {
         reads: 0,
         waiting: false,
@@ -88,7 +88,7 @@ type Thread = Attached<Blank>;
 fn two(rt: &impl Abort, alloc: Global) -> (Shared, Thread)
     ensures { AreOf result.0 result.1.passes }
 {
-    shared_from(rt, alloc, over(rt, alloc, blank(), blank()))
+    shared_from(rt, alloc, over(rt, alloc, new_blank(), new_blank()))
 }
 
 // How many reads the devices of closed shards made, and how many of their pages are dirty.
@@ -156,7 +156,7 @@ fn are_filled<R: Wait>(rt: &R, shared: &Shared, mut thread: Thread, first: u64) 
     requires { AreOf shared.now thread.passes }
     ensures { AreOf shared.now result.0.passes }
 {
-    for round in 0..16 {
+    for round in 0..16u64 {
         let no = first.wrapping_add(round.wrapping_mul(4));
         if filled(rt, shared, &mut thread, no, byte_of(no)) != Ok(byte_of(no)) {
             return (thread, false);

@@ -10,13 +10,14 @@ use std::sync::Wait;
 use test_kit::{flaky, page};
 use warm_concurrent::{Attached, SharedFault, SharedShards};
 use warm_devices::{Flaky, MemDevice};
+use warm_gossip::NodeFault;
 use warm_pool::PoolFault;
 
 type Shared = SharedShards<Flaky<MemDevice>>;
 
 type Thread = Attached<Flaky<MemDevice>>;
 
-const FAULT: SharedFault = of_pool(PoolFault::Fault);
+const FAULT: SharedFault = SharedFault::Node(NodeFault::Pool(PoolFault::Fault));
 
 // Two shards. The call of this number of the device of shard 1 fails, 0 for none.
 fn two_over(rt: &impl Abort, alloc: Global, second: u64) -> (Shared, Thread)

@@ -18,6 +18,6 @@ pub filled_refused : (n m : NodeState) (p : PageId) (bytes : List ℕ) (why : No
     → OfPool (λ fault. UnreadPinFails n.history p n.pool fault m.pool) why
     → PinFilledStep n p bytes (Refused why) m
 filled_refused n m p bytes (Pool SizeDiffers) size goes fails = absurd fails.cause.0.2
-filled_refused n m p bytes (Pool fault) size goes fails = (size, goes, fails)
+filled_refused n m p bytes (Pool _) size goes fails = (size, goes, fails)
 filled_refused n m p bytes Memory size goes fails = absurd fails
 filled_refused n m p bytes StaleSlot size goes fails = absurd fails
