@@ -61,7 +61,7 @@ unforgotten s t dev from StaleSlot refused = absurd refused
 -- the write of a page failed, or the flush of a device
 unwritten : (s t : PoolState) (p : PageId) (why : NodeFault)
     → OfPool (λ fault. WritePageFails p s fault t) why → (view_of t).frames ≡ (view_of s).frames
-unwritten s t p (Pool fault) failed = ap (λ (fs : List FrameState). map frame_view fs) failed.cause.1.frames
+unwritten s t p (Pool why) failed = ap (λ (fs : List FrameState). map frame_view fs) failed.cause.1.frames
 unwritten s t p Memory failed = absurd failed
 unwritten s t p StaleSlot failed = absurd failed
 
