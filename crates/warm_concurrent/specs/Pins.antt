@@ -1,8 +1,8 @@
 -- Pins: which calls give and remove them, and how many are left.
 --
 -- A frame has a pin count, and a slot names a frame. Neither says who pinned it: a thread may unpin
--- what another pinned. So what holds is a sum: the pools together have the pins with which the
--- shards opened, and as many as all threads count. It is three laws.
+-- what another pinned. So what holds is a sum: the pins with which the shards opened, and those that
+-- the calls of all threads gave, less those that these removed. It is three laws.
 --
 -- Of a shard (`PinsAreGiven`): a legal list of its calls leads from the pins of its pool to these,
 -- one more for each pin and one less for each unpin that it answered.
