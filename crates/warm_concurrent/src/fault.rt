@@ -11,9 +11,9 @@ use warm_turn::TurnsSpent;
 /// numbers of a world's own faults.
 #[derive(Clone, Copy, PartialEq, Eq, Debug, Error)]
 pub enum SharedFault {
-    /// 1, or 4 to 13: why the node of the shard refuses. `Memory`, 1, is also an allocation that
-    /// failed before any shard was called; `StaleSlot`, 13, also a slot of a shard that is not
-    /// there.
+    /// 1, or 3 to 13: why the node of the shard refuses. `Memory`, 1, is also an allocation that
+    /// failed before any shard was called; `SizeDiffers`, 3, that a device's pages, or the bytes of a
+    /// page, are not of the pool's size; `StaleSlot`, 13, also a slot of a shard that is not there.
     #[error(transparent)]
     Node(NodeFault),
     /// 18: no ticket was left for a call of the shard, and none is left for any later call of that
@@ -56,7 +56,7 @@ impl<C: Drop> From<TurnsSpent<C>> for SharedFault {
 }
 
 impl SharedFault {
-    /// The number of the refusal: 1, 4 to 13, or 18 to 21.
+    /// The number of the refusal: 1, 3 to 13, or 18 to 21.
     pub fn code(self) -> u8
         ensures { result ≡ code_of self }
     {
