@@ -35,7 +35,7 @@ def compiled(source: Path, folder: Path) -> Path:
 
 
 class Line(NamedTuple):
-    """What one program needed for one case. Figures that were copied have no runs, and perhaps no median."""
+    """What one program needed for one case."""
 
     case: str
     who: str
@@ -45,14 +45,13 @@ class Line(NamedTuple):
     runs: tuple[float, ...]
 
     def __str__(self) -> str:
-        words = (self.case, self.who, self.unit, shown(self.fastest), shown(self.median), " ".join(map(shown, self.runs)))
-        return " | ".join(words).rstrip()
+        return " | ".join((self.case, self.who, self.unit, shown(self.fastest), shown(self.median), " ".join(map(shown, self.runs))))
 
 
 def shown(number: float) -> str:
     """Four digits of a number, or more before its point."""
-    if not math.isfinite(number):
-        return "" if math.isnan(number) else "inf"
+    if math.isinf(number):
+        return "inf"
     digits = 3 - math.floor(math.log10(abs(number))) if number else 0
     return f"{number:.{max(0, digits)}f}"
 
@@ -67,12 +66,8 @@ def line_of(case: str, who: str, unit: str, runs: list[float]) -> Line:
 
 
 def read_line(text: str) -> Line:
-    case, who, unit, fastest, median, runs = (it.strip() for it in (text + " |" * (5 - text.count("|"))).split("|"))
-    return Line(case, who, unit, number_of(fastest), number_of(median), tuple(float(it) for it in runs.split()))
-
-
-def number_of(text: str) -> float:
-    return float(text) if text else math.nan
+    case, who, unit, fastest, median, runs = (it.strip() for it in text.split("|"))
+    return Line(case, who, unit, float(fastest), float(median), tuple(map(float, runs.split())))
 
 
 class Runs:
