@@ -1,5 +1,5 @@
 -- A pin with bytes that are given, which was refused.
-use Rattle.std.proofs.Common.{◌≡◌, ℕ, List, length}
+use Rattle.std.proofs.Common.{◌≡◌, ◌≢◌, ℕ, List, length}
 use Rattle.warm_stamps.specs.declared.PageId.{PageId}
 use Rattle.warm_pool.specs.declared.fault.PoolFault.TheVariants.{SizeDiffers}
 use Rattle.warm_pool.specs.Outcomes.{UnreadPinFails}
@@ -21,3 +21,10 @@ filled_refused n m p bytes (Pool SizeDiffers) size goes fails = absurd fails.cau
 filled_refused n m p bytes (Pool _) size goes fails = (size, goes, fails)
 filled_refused n m p bytes Memory size goes fails = absurd fails
 filled_refused n m p bytes StaleSlot size goes fails = absurd fails
+
+-- nor for memory
+pub filled_not_memory : (n m : NodeState) (p : PageId) (why : NodeFault)
+    → OfPool (λ fault. UnreadPinFails n.history p n.pool fault m.pool) why → why ≢ Memory
+filled_not_memory n m p Memory fails = absurd fails
+filled_not_memory n m p (Pool why) fails = λ e. let no : Pool why ≡ Memory = e in absurd (cc)
+filled_not_memory n m p StaleSlot fails = absurd fails

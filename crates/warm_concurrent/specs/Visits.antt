@@ -8,7 +8,7 @@ use Rattle.warm_stamps.specs.declared.PageId.{PageId}
 use Rattle.warm_concurrent.specs.declared.call.ShardCall.TheVariants.{Change, Look}
 use Rattle.warm_concurrent.specs.declared.call.ShardReply.{ShardReply}
 use Rattle.warm_concurrent.specs.declared.call.ShardReply.TheVariants.{Bytes, Changed, Foreign}
-use Rattle.warm_concurrent.specs.declared.call.ShardReply.TheVariants.{Looked, Refused}
+use Rattle.warm_concurrent.specs.declared.call.ShardReply.TheVariants.{Looked, Pinned, Refused}
 use Rattle.warm_concurrent.specs.declared.visitors.Went.{Went}
 use Rattle.warm_concurrent.specs.declared.visitors.Went.TheVariants as went
 use Rattle.warm_concurrent.specs.Attached.{ShardPass}
@@ -35,6 +35,13 @@ VisitWentAs so went.Foreign reply = reply ≡ Foreign
 abbrev pub ReadsInto : List ℕ → Option NodeFault → List ℕ → ShardReply → Type 0
 ReadsInto old None new reply = reply ≡ Bytes new
 ReadsInto old (Some why) new reply = (reply ≡ Refused why) × (new ≡ old) × (why ≢ Memory)
+
+-- How a pin of a page with given bytes went, and its reply: the slot; or a refusal, though never for
+-- memory; or the page is of another shard.
+abbrev pub FillsAs : Went Slot → ShardReply → Type 0
+FillsAs (went.Given slot) reply = reply ≡ Pinned slot
+FillsAs (went.Refused why) reply = (reply ≡ Refused why) × (why ≢ Memory)
+FillsAs went.Foreign reply = reply ≡ Foreign
 
 -- the shard of this number showed bytes of the page of which this is so, in one turn, and no other
 -- was entered

@@ -1,14 +1,15 @@
 //! Pinning a page whose bytes a thread has read with no turn held, in one turn of the page's shard.
 ghost use Rattle.std.specs.Prelude.{◌≡◌, ◌≢◌, ◌<◌, ◌+◌, Err, length, IfErr, IfOk, OnErr, OnOk};
+ghost use Rattle.warm_gossip.specs.declared.fault.NodeFault.TheVariants.{Memory};
 ghost use Rattle.warm_shards.specs.Shards.{shard_of};
 ghost use Rattle.warm_concurrent.specs.Attached.{AreOf, AreTurns};
 ghost use Rattle.warm_concurrent.specs.Clauses.{CallEnds};
 ghost use Rattle.warm_concurrent.specs.Filling.{ClaimNothing, FilledPinEnds};
 ghost use Rattle.warm_concurrent.specs.ShardSteps.{PinFilledStep, ShardStep};
-ghost use Rattle.warm_concurrent.specs.Visits.{VisitWentAs};
+ghost use Rattle.warm_concurrent.specs.Visits.{FillsAs};
 ghost use Rattle.warm_concurrent.specs.declared.call.ShardCall.TheVariants.{PinFilled};
 ghost use Rattle.warm_concurrent.specs.declared.call.ShardReply.TheVariants.{Pinned, Refused};
-ghost use Rattle.warm_concurrent.specs.declared.fault.SharedFault.TheVariants.{PinsFull};
+ghost use Rattle.warm_concurrent.specs.declared.fault.SharedFault.TheVariants as faults;
 
 use crate::call::{ShardCall, ShardReply};
 use crate::fault::SharedFault;
@@ -36,6 +37,7 @@ fn filled_in<D: PageDevice>(
         node.new) }
     ensures refused { IfErr result (λ why. PinFilledStep node.old page bytes.now (Refused why)
         node.new) }
+    ensures no_memory { IfErr result (λ why. why ≢ Memory) }
 {
     if bytes.len() != node.pool().page_size() {
         return Err(NodeFault::Pool(PoolFault::SizeDiffers));
@@ -57,16 +59,15 @@ pub(crate) struct Filling<'a> {
 impl<'a, D: PageDevice + Send> Visit<Shard<D>> for Filling<'a> {
     ghost use Rattle.std.specs.Prelude.{◌≡◌};
     ghost use Rattle.warm_concurrent.specs.Filling.{ClaimNothing};
-    ghost use Rattle.warm_concurrent.specs.Visits.{VisitWentAs};
+    ghost use Rattle.warm_concurrent.specs.Visits.{FillsAs};
     ghost use Rattle.warm_concurrent.specs.declared.call.ShardCall.TheVariants.{PinFilled};
-    ghost use Rattle.warm_concurrent.specs.declared.call.ShardReply.TheVariants.{Pinned};
 
     type Output = Went<Slot>;
 
     ghost ready = { λ v. ClaimNothing D.state × (v.told.numbers ≡ v.bytes.now) };
 
     ghost makes = { λ v output call reply. (call ≡ PinFilled v.page v.told)
-        × VisitWentAs (λ slot said. said ≡ Pinned slot) output reply };
+        × FillsAs output reply };
 
     fn visit(self, shard: &mut Shard<D>) -> Visited<ShardCall, ShardReply, Went<Slot>> {
         let Filling { page, bytes, told } = self;
@@ -85,8 +86,7 @@ impl<D: PageDevice> Shard<D> {
         requires unsure { ClaimNothing D.state }
         requires told { told.numbers ≡ bytes.now }
         ensures call { result.made.call.value ≡ PinFilled page told }
-        ensures reply { VisitWentAs (λ slot said. said ≡ Pinned slot)
-            result.output result.made.reply.value }
+        ensures reply { FillsAs result.output result.made.reply.value }
         ensures step { ShardStep self.old (PinFilled page told) result.made.reply.value
             self.new }
     {
@@ -120,6 +120,7 @@ fn fill_in<D: PageDevice + Send, R: Wait>(
     ensures passes { AreOf turns.now.items passes.new.items }
     ensures ends { CallEnds passes.old.items shard (PinFilled page told) Pinned result
         passes.new.items }
+    ensures no_memory { IfErr result (λ why. why ≢ faults.Node Memory) }
 {
     let filling = Filling { page, bytes, told };
     match visit_or_back(rt, turns, passes, shard, filling) {
@@ -147,6 +148,7 @@ fn pin_filled_in<D: PageDevice + Send, R: Wait>(
     ensures passes { AreOf turns.now.items passes.new.items }
     ensures ends { FilledPinEnds passes.old.items shard page bytes.now Pinned result
         passes.new.items }
+    ensures no_memory { IfErr result (λ why. why ≢ faults.Node Memory) }
 {
     let told = tag_of(bytes);
     fill_in(rt, turns, passes, shard, page, bytes, told)
@@ -179,11 +181,12 @@ impl<D: PageDevice + Send> SharedShards<D> {
         requires passes { AreOf self.now attached.old.passes }
         requires unsure { ClaimNothing D.state }
         ensures attached { AreOf self.now attached.new.passes }
-        ensures full { attached.old.pins ≡ u64.MAX → (result ≡ Err PinsFull)
+        ensures full { attached.old.pins ≡ u64.MAX → (result ≡ Err faults.PinsFull)
             × (attached.new ≡ attached.old) }
         ensures ends { attached.old.pins ≢ u64.MAX
             → FilledPinEnds attached.old.passes (shard_of (length self.now) page) page bytes.now
             (λ at. Pinned at.slot) result attached.new.passes }
+        ensures no_memory { IfErr result (λ why. why ≢ faults.Node Memory) }
         ensures shard { IfOk result (λ at. at.shard ≡ shard_of (length self.now) page) }
         ensures held { OnOk result (attached.new.pins ≡ attached.old.pins + 1) }
         ensures as_many { OnErr result (attached.new.pins ≡ attached.old.pins) }

@@ -1,7 +1,7 @@
 use Rattle.std.proofs.Common.{◌≡◌, ◌∙◌, length, ap}
 use Rattle.std.proofs.lemmas.Result.{err_from_is_err_and}
 use Rattle.warm_pool.proofs.Fills.{given_unsure}
-use Rattle.warm_concurrent.proofs.Filled.{filled_refused}
+use Rattle.warm_concurrent.proofs.Filled.{filled_not_memory, filled_refused}
 use Rattle.warm_concurrent.proofs.filling.filled_in.Goals as goal
 
 pub pin_filled-requires-clause-given : goal.pin_filled-requires-clause-given
@@ -18,3 +18,8 @@ pub returns-clause-pinned : goal.returns-clause-pinned
 returns-clause-pinned g c =
     let size : length c.args.bytes.now ≡ c.args.node.now.pool.page_size = c.if-bytes-page_size.false ∙ c.page_size.ensures ∙ ap (λ s. s.page_size) c.pool.ensures in
     (size, c.in_ok-slot.ensures.step, c.in_ok-slot.ensures.frame)
+
+pub returns-in_err-slot-clause-no_memory : goal.returns-in_err-slot-clause-no_memory
+returns-in_err-slot-clause-no_memory g c =
+    let given = err_from_is_err_and c.from_residual.result c.from_residual.ensures.1 in
+    rw (given.1, given.2) (filled_not_memory c.args.node.now c.pin_filled.new.self c.args.page c.in_err-slot.field-0.0 c.in_err-slot.ensures.refused)
