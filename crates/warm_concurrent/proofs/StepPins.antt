@@ -176,9 +176,9 @@ goes_moves n m (ForgetPages dev from) (Refused why) free step =
     stays n m free (ap (λ (s : PoolState). (view_of s).frames) (unforgotten n.pool m.pool dev from why step.1))
 goes_moves n m (ForgetPages dev from) r free step = absurd step
 goes_moves n m (Retire dev told) Done free step =
-    retired_moves (view_of n.pool) (view_of m.pool) dev step.0 step.3 free
+    retired_moves (view_of n.pool) (view_of m.pool) dev step.0 step.3.retired free
 goes_moves n m (Retire dev told) (Refused (Pool fault)) free step =
-    stays n m free (retire_refused (view_of n.pool) (view_of m.pool) dev step.0 fault step.3)
+    stays n m free (retire_refused (view_of n.pool) (view_of m.pool) dev step.0 fault step.3.cause)
 goes_moves n m (Retire dev told) (Refused Memory) free step = stays n m free (unmoved n m step)
 goes_moves n m (Retire dev told) r free step = absurd step
 -- a look pins and unpins

@@ -13,10 +13,9 @@ use Rattle.warm_pool.specs.Filling.{TakesFilled}
 use Rattle.warm_pool.specs.Forgetting.{ForgetRefused, Forgets}
 use Rattle.warm_devices.specs.Device.{DeviceState}
 use Rattle.warm_pool.specs.Keeping.{KeepsBytes, KeepsFrames}
-use Rattle.warm_pool.specs.Outcomes.{FlushDeviceFails, SettlesDevice, UnreadPinFails}
-use Rattle.warm_pool.specs.Outcomes.{WritePageFails, WritesPageBack}
+use Rattle.warm_pool.specs.Outcomes.{FlushDeviceFails, RetireFails, RetiresDevice, SettlesDevice}
+use Rattle.warm_pool.specs.Outcomes.{UnreadPinFails, WritePageFails, WritesPageBack}
 use Rattle.warm_pool.specs.PageBytes.{IsLent}
-use Rattle.warm_pool.specs.Retiring.{KeepsElsewhere, RetireRefused, Retired}
 use Rattle.warm_pool.specs.State.{IsSettled}
 use Rattle.warm_pool.specs.View.{view_of}
 use Rattle.warm_pool.specs.WritingBack.{WriteBackFails}
@@ -297,16 +296,13 @@ CopyStep old (Copied history) new = (history ≡ old.history) × (new ≡ old)
 CopyStep old (Refused why) new = (why ≡ Memory) × (new ≡ old)
 CopyStep old reply new = ⊥
 
--- A device was replaced with one of the state that was told, or it is refused. A call that brought
+-- A device was replaced with one of the state that was told, or a pool refuses it. A call that brought
 -- no device is refused as if no memory were left.
 abbrev pub RetireStep : NodeState → ℕ → Tag → ShardReply → NodeState → Type 0
 RetireStep old dev told Done new = (device : DeviceState) × IsTold told device × KeepsKnown old new
-    × Retired (view_of old.pool) dev device (view_of new.pool)
-    × KeepsElsewhere dev old.pool new.pool
+    × RetiresDevice dev device old.pool new.pool
 RetireStep old dev told (Refused (Pool fault)) new = (device : DeviceState) × IsTold told device
-    × KeepsKnown old new
-    × RetireRefused (view_of old.pool) dev device fault (view_of new.pool)
-    × KeepsElsewhere dev old.pool new.pool
+    × KeepsKnown old new × RetireFails dev device old.pool fault new.pool
 RetireStep old dev told (Refused Memory) new = new ≡ old
 RetireStep old dev told reply new = ⊥
 
