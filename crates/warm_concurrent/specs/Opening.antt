@@ -4,7 +4,7 @@ use Rattle.std.specs.Prelude.{Result, Ok, Err, slice_index_or}
 use Rattle.warm_turn.specs.declared.fault.Busy.{Busy}
 use Rattle.warm_turn.specs.CallHistories.{IsLast, Joined, calls_by, first_pass, halved, new_pass}
 use Rattle.warm_turn.specs.Shares.{IsWhole}
-use Rattle.warm_turn.specs.Rule.{MarkShows}
+use Rattle.warm_turn.specs.Rule.{AreWords, MarkShows}
 use Rattle.warm_gossip.specs.State.{NodeState}
 use Rattle.warm_gossip.specs.declared.fault.NodeFault.TheVariants.{Memory}
 use Rattle.warm_shards.specs.Shards.{IsShardCount}
@@ -69,12 +69,13 @@ pub record PassesAreJoined (old other new : List ShardPass) : Type 0 where
 
 -- the node of a closed shard is in a state that a legal history reaches, which begins with what the
 -- pass has seen. Or the pass did not have the whole right to close, a call of the shard was under
--- way, and the node is lost
+-- way, and the node is lost: the words of `Busy` are those of a state that the rule of the turn
+-- allows, in which a pass knows what this one does
 abbrev pub ClosesShard : ShardTurn → Known → Result NodeState Busy → Type 0
 ClosesShard turn known (Ok node) = (s : ShardState) × (s.node ≡ node)
     × IsLast ShardStep turn.opening known s
 ClosesShard turn known (Err busy) = (busy.serving < busy.ticket) × MarkShows known busy
-    × (¬ IsWhole known.share)
+    × (¬ IsWhole known.share) × AreWords (λ (s : ShardState). s) ShardStep turn.opening known busy
 
 pub record AreClosed (turns : List ShardTurn) (passes : List ShardPass)
     (nodes : List (Result NodeState Busy)) : Type 0 where

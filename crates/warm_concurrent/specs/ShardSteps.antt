@@ -296,8 +296,8 @@ CopyStep old (Copied history) new = (history ≡ old.history) × (new ≡ old)
 CopyStep old (Refused why) new = (why ≡ Memory) × (new ≡ old)
 CopyStep old reply new = ⊥
 
--- A device was replaced with one of the state that was told, or a pool refuses it. A call that brought
--- no device is refused as if no memory were left.
+-- A device was replaced with one of the state that was told, or a pool refuses it. A call that
+-- brought no device is refused as if no memory were left.
 abbrev pub RetireStep : NodeState → ℕ → Tag → ShardReply → NodeState → Type 0
 RetireStep old dev told Done new = (device : DeviceState) × IsTold told device × KeepsKnown old new
     × RetiresDevice dev device old.pool new.pool
