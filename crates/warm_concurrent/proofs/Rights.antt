@@ -4,20 +4,18 @@ use Rattle.std.proofs.Common.{◌≡◌, ℕ, zero, suc, ◌*◌, ◌<◌, List,
 use Rattle.std.proofs.Math.Nat.{mul-pos}
 use Rattle.warm_turn.specs.declared.fault.Busy.{Busy}
 use Rattle.warm_turn.specs.declared.table.Share.{Share}
+use Rattle.warm_turn.specs.CallHistories.{marked}
 use Rattle.warm_turn.specs.Shares.{AsLarge, both, half, no_share, whole_share}
 use Rattle.warm_turn.proofs.Shares.{AsLarge-both, AsLarge-self, AsLarge-trans, both_assoc}
 use Rattle.warm_gossip.specs.State.{NodeState}
 use Rattle.warm_concurrent.specs.declared.call.ShardCall.{ShardCall}
 use Rattle.warm_concurrent.specs.declared.call.ShardReply.{ShardReply}
-use Rattle.warm_concurrent.specs.declared.call.ShardReply.TheVariants.{Refused}
-use Rattle.warm_concurrent.specs.declared.fault.SharedFault.{SharedFault}
-use Rattle.warm_concurrent.specs.declared.fault.SharedFault.TheVariants.{Node, TurnsSpent}
 use Rattle.warm_concurrent.specs.Attached.{Known, ShardPass, ShardTurn, known_of, shard_pass, shard_turn}
-use Rattle.warm_concurrent.specs.Clauses.{CallFails, Got}
+use Rattle.warm_concurrent.specs.Clauses.{Got}
 use Rattle.warm_concurrent.specs.Laws.{OverCalls}
 use Rattle.warm_concurrent.specs.Opening.{AreClosed, AreFirst, ClosesShard}
 use Rattle.warm_concurrent.specs.Rights.{AreGivenBack, Come, HasWholeRight, KeepsRight, Moves, NodesComeBack, Threads, ThreadsMove}
-use Rattle.warm_concurrent.proofs.LawsHold.{one_so, over_calls}
+use Rattle.warm_concurrent.proofs.LawsHold.{over_calls}
 
 -- ---- calls
 
@@ -30,20 +28,16 @@ same_self p = refl
 same_got : (p q : ShardPass) (c : ShardCall) (r : ShardReply) → Got p.view c r q.view → SameShare p q
 same_got p q c r got = got.share
 
+same_spent : (p q : ShardPass) → q.view ≡ marked p.view → SameShare p q
+same_spent p q is = ap (λ (v : Known). v.share) is
+
 each_keeps : (old new : List ShardPass)
     → ((length new ≡ length old) × ((i : ℕ) → SameShare (shard_pass old i) (shard_pass new i)))
     → KeepsRight old new
 each_keeps old new so = record { count = so.0; shares = λ i lt. so.1 i }
 
 pub calls_keep : OverCalls KeepsRight
-calls_keep = over_calls SameShare same_self same_got KeepsRight each_keeps
-
-refused_keeps : (old new : List ShardPass) (i : ℕ) (c : ShardCall) (why : SharedFault)
-    → i < length old → CallFails old i c why new → KeepsRight old new
-refused_keeps old new i c (Node why) lt fails = calls_keep.called old new i c (Refused why) lt fails
-refused_keeps old new i c TurnsSpent lt fails =
-    each_keeps old new (one_so SameShare same_self same_got old new i lt fails.1 (ap (λ (v : Known). v.share) fails.0))
-refused_keeps old new i c why lt fails = absurd fails
+calls_keep = over_calls SameShare same_self same_got same_spent KeepsRight each_keeps
 
 -- ---- all threads together
 
@@ -218,7 +212,6 @@ closed_gives_back turns passes results right closed =
 pub nodes_come_back : NodesComeBack
 nodes_come_back = record {
   calls = calls_keep;
-  refused = refused_keeps;
   alone = alone_has_all;
   closed = closed_gives_back;
 }

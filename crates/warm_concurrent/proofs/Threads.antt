@@ -117,7 +117,7 @@ all_in P T log (e ∷ es) each more held =
 -- a batch leaves those that were ended into a pass
 ended_kept : OverCalls (λ old new. (i : ℕ) → (known_of new i).ended ≡ (known_of old i).ended)
 ended_kept =
-    over_calls (λ p q. q.view.ended ≡ p.view.ended) (λ p. refl) (λ p q c r got. got.ended) (λ old new. (i : ℕ) → (known_of new i).ended ≡ (known_of old i).ended)
+    over_calls (λ p q. q.view.ended ≡ p.view.ended) (λ p. refl) (λ p q c r got. got.ended) (λ p q is. ap (λ (v : Known). v.ended) is) (λ old new. (i : ℕ) → (known_of new i).ended ≡ (known_of old i).ended)
     (λ old new so i. so.1 i)
 
 -- one of these moves, and the others have what they had

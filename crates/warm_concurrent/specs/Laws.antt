@@ -17,9 +17,11 @@ use Rattle.warm_stamps.specs.declared.Reference.{Reference}
 use Rattle.warm_concurrent.specs.declared.answering.Offered.{Offered}
 use Rattle.warm_concurrent.specs.declared.call.ShardCall.{ShardCall}
 use Rattle.warm_concurrent.specs.declared.call.ShardReply.{ShardReply}
+use Rattle.warm_concurrent.specs.declared.fault.SharedFault.{SharedFault}
 use Rattle.warm_concurrent.specs.Answering.{AnswersFirst, OffersFirst}
 use Rattle.warm_concurrent.specs.Attached.{Known, ShardPass, ShardTurn, known_of}
-use Rattle.warm_concurrent.specs.Clauses.{AnsweredByShard}
+use Rattle.warm_concurrent.specs.Clauses.{AnsweredByShard, CallFails}
+use Rattle.warm_concurrent.specs.Copying.{CopiesFirst}
 use Rattle.warm_concurrent.specs.Opening.{ClosesShard, PassesAreJoined, shards_over, state_at}
 use Rattle.warm_concurrent.specs.declared.call.ShardReply.TheVariants.{Changed, Done, Foreign}
 use Rattle.warm_concurrent.specs.declared.call.ShardReply.TheVariants.{Looked, Pinned}
@@ -130,10 +132,14 @@ TogetherAreOfGiven = (hs : List HistoryView) (Ss : List ReferenceSet) → StandF
 abbrev pub SeesMore : List ShardPass → List ShardPass → Type 0
 SeesMore old new = (i : ℕ) → i < length old → IsPrefix (known_of old i).seen (known_of new i).seen
 
--- so it is of what a thread has, before and after each call of shards that ends well
+-- So it is of what a thread has, before and after each call of one shard, also if it is refused, and
+-- each call of several shards. One of these that stops at a shard is such a call of the shards
+-- before, and one that is refused.
 pub record OverCalls (So : List ShardPass → List ShardPass → Type 0) : Type 0 where
   pub called : (old new : List ShardPass) (i : ℕ) (call : ShardCall) (reply : ShardReply)
       → i < length old → AnsweredByShard old i call reply new → So old new
+  pub refused : (old new : List ShardPass) (i : ℕ) (call : ShardCall) (why : SharedFault)
+      → i < length old → CallFails old i call why new → So old new
   pub absorbed : (old new : List ShardPass) (k : ℕ) (batch : List Reference)
       → AbsorbsFirst batch k old new → So old new
   pub raised : (old new : List ShardPass) (k time : ℕ) → RaisesFirst time k old new → So old new
@@ -145,6 +151,8 @@ pub record OverCalls (So : List ShardPass → List ShardPass → Type 0) : Type 
       → OffersFirst offers k old new → So old new
   pub answered : (old new : List ShardPass) (request : ℕ) (parts : List (List Message)) (k : ℕ)
       → AnswersFirst request parts k old new → So old new
+  pub copied : (old new : List ShardPass) (copies : List HistoryView) (k : ℕ)
+      → CopiesFirst copies k old new → So old new
 
 -- whatever a thread calls, it has then seen of each shard what it had seen, and maybe more
 pub record OnlySeesMore : Type 0 where

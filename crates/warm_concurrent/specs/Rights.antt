@@ -3,10 +3,7 @@ use Rattle.std.specs.Prelude.{◌≡◌, ℕ, ◌<◌, List, [], ◌∷◌, ◌+
 use Rattle.warm_turn.specs.declared.fault.Busy.{Busy}
 use Rattle.warm_turn.specs.Shares.{IsWhole}
 use Rattle.warm_gossip.specs.State.{NodeState}
-use Rattle.warm_concurrent.specs.declared.call.ShardCall.{ShardCall}
-use Rattle.warm_concurrent.specs.declared.fault.SharedFault.{SharedFault}
 use Rattle.warm_concurrent.specs.Attached.{ShardPass, ShardTurn, known_of}
-use Rattle.warm_concurrent.specs.Clauses.{CallFails}
 use Rattle.warm_concurrent.specs.Laws.{OverCalls}
 use Rattle.warm_concurrent.specs.Opening.{AreClosed, AreFirst, AreHalved, AreSplit}
 use Rattle.warm_concurrent.specs.Opening.{PassesAreJoined}
@@ -57,8 +54,6 @@ Come old (next ∷ more) new = ThreadsMove old next × Come next more new
 -- it gets all nodes from a close.
 pub record NodesComeBack : Type 0 where
   pub calls : OverCalls KeepsRight
-  pub refused : (old new : List ShardPass) (i : ℕ) (call : ShardCall) (why : SharedFault)
-      → i < length old → CallFails old i call why new → KeepsRight old new
   pub alone : (turns : List ShardTurn) (first last : List ShardPass) (between : List Threads)
       → AreFirst turns first → Come (first ∷ []) between (last ∷ [])
       → HasWholeRight (length turns) last
