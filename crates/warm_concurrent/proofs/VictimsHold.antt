@@ -27,8 +27,9 @@ use Rattle.warm_concurrent.specs.declared.call.ShardCall.{ShardCall}
 use Rattle.warm_concurrent.specs.declared.call.ShardCall.TheVariants.{Change, Look, Pin, PinFilled, PinZeroed, Victim, WarmStep}
 use Rattle.warm_concurrent.specs.declared.call.ShardReply.{ShardReply}
 use Rattle.warm_concurrent.specs.declared.call.ShardReply.TheVariants.{Changed, Foreign, Looked, Page, Pinned, Refused}
-use Rattle.warm_concurrent.specs.Attached.{known_of}
-use Rattle.warm_concurrent.specs.Given.{FillsFrame, Log, SharedVictims, VictimsOver, gave}
+use Rattle.warm_concurrent.specs.Attached.{ShardPass, known_of}
+use Rattle.warm_concurrent.specs.Clauses.{AnsweredByShard}
+use Rattle.warm_concurrent.specs.Given.{AnswersAfter, FillsFrame, Log, SharedVictims, VictimsOver, gave}
 use Rattle.warm_concurrent.specs.ShardSteps.{CallGoes, CallStep, ShardState, ShardStep, node_reply_of}
 use Rattle.warm_concurrent.proofs.Headline.{run_gave}
 use Rattle.warm_concurrent.proofs.Steps.{last_of}
@@ -195,8 +196,11 @@ victims_over G o m c r stands step = record {
 
 -- ---- an answered call
 
-pub shared_victims : SharedVictims
-shared_victims S opening old new i c r stands opens answered =
+answered_after : (opening : ShardState) (old new : List ShardPass) (i : ℕ) (c : ShardCall)
+    (r : ShardReply) → (known_of old i).opening ≡ Some opening → AnsweredByShard old i c r new
+    → (before : Log) × (was : ShardState) × (is : ShardState)
+    × AnswersAfter opening (known_of old i) (known_of new i) c r before was is
+answered_after opening old new i c r opens answered =
     let got = answered.0 in
     let v = known_of old i in
     let legal = got.legal.legal in
@@ -209,5 +213,12 @@ shared_victims S opening old new i c r stands opens answered =
       last.0,
       legal.1,
       record { seen = got.seen; begins = (got.between, refl); reaches = last.1; steps = last.2 },
-      victims_over (S ∪ gave before) last.0 legal.1 c r (run_gave S opening last.0 before stands last.1) last.2,
     )
+
+-- ---- the law
+
+pub shared_victims : SharedVictims
+shared_victims = record {
+  each = λ S opening was is before c r stands runs step. victims_over (S ∪ gave before) was is c r (run_gave S opening was before stands runs) step;
+  answered = answered_after;
+}

@@ -214,12 +214,15 @@ pub record AnswersAfter (opening : ShardState) (old new : Known) (call : ShardCa
   pub reaches : Runs ShardStep opening before was
   pub steps : ShardStep was call reply is
 
--- Victims of a shard are farthest back over what it opened with and what the calls of its log had
--- given it until then, whichever threads made them, not older than its horizon.
-abbrev pub SharedVictims : Type 0
-SharedVictims = (S : ReferenceSet) (opening : ShardState) (old new : List ShardPass) (i : ℕ)
-    (call : ShardCall) (reply : ShardReply) → StandsFor opening.node.history S
-    → (known_of old i).opening ≡ Some opening → AnsweredByShard old i call reply new
-    → (before : Log) × (was : ShardState) × (is : ShardState)
-    × AnswersAfter opening (known_of old i) (known_of new i) call reply before was is
-    × VictimsOver (S ∪ gave before) was call reply is
+-- In every legal run of the calls of a shard, whichever threads made them, its victims are farthest
+-- back over what it opened with and what the calls before had given it, not older than its horizon.
+-- Each call that a thread saw answered stands in such a run, after all that the thread had seen.
+pub record SharedVictims : Type 0 where
+  pub each : (S : ReferenceSet) (opening was is : ShardState) (before : Log) (call : ShardCall)
+      (reply : ShardReply) → StandsFor opening.node.history S → Runs ShardStep opening before was
+      → ShardStep was call reply is → VictimsOver (S ∪ gave before) was call reply is
+  pub answered : (opening : ShardState) (old new : List ShardPass) (i : ℕ) (call : ShardCall)
+      (reply : ShardReply) → (known_of old i).opening ≡ Some opening
+      → AnsweredByShard old i call reply new
+      → (before : Log) × (was : ShardState) × (is : ShardState)
+      × AnswersAfter opening (known_of old i) (known_of new i) call reply before was is
