@@ -12,9 +12,9 @@ use Rattle.warm_peer.specs.Answers.{refs_in}
 use Rattle.warm_shards.specs.Shards.{of_first_shards, of_shard, shard_of}
 use Rattle.warm_shards.proofs.Lists.{from_filter, in_both, in_filter, in_first, in_second}
 use Rattle.warm_concurrent.specs.declared.call.ShardCall.{ShardCall}
-use Rattle.warm_concurrent.specs.declared.call.ShardCall.TheVariants.{Absorb, Answer, Offer, Raise}
+use Rattle.warm_concurrent.specs.declared.call.ShardCall.TheVariants.{Absorb, Answer, CopyHistory, Offer, Raise, TakeIn}
 use Rattle.warm_concurrent.specs.declared.call.ShardReply.{ShardReply}
-use Rattle.warm_concurrent.specs.declared.call.ShardReply.TheVariants.{Refused}
+use Rattle.warm_concurrent.specs.declared.call.ShardReply.TheVariants.{Copied, Done, Refused}
 use Rattle.warm_frames.specs.declared.message.Message.{Message}
 use Rattle.warm_frames.specs.declared.message.Message.TheVariants.{Entries, Digest, Want}
 use Rattle.warm_gossip.specs.declared.fault.NodeFault.{NodeFault}
@@ -24,10 +24,11 @@ use Rattle.warm_concurrent.specs.declared.fault.SharedFault.{SharedFault}
 use Rattle.warm_concurrent.specs.declared.fault.SharedFault.TheVariants.{Node, TurnsSpent}
 use Rattle.warm_concurrent.specs.Attached.{KeepsOtherPasses, Known, ShardPass, no_pass, shard_pass}
 use Rattle.warm_concurrent.specs.Clauses.{AnsweredByShard, CallFails}
-use Rattle.warm_concurrent.specs.Given.{HasGiven, SameGiven, ThreadsGive, gave_call, given_to_first, only_horizon, shards_given}
+use Rattle.warm_concurrent.specs.Copying.{GivesCopy, no_history}
+use Rattle.warm_concurrent.specs.Given.{HasGiven, HasGivenNothing, SameGiven, ThreadsGive, gave_call, given_to_first, only_horizon, shards_given}
 use Rattle.warm_concurrent.specs.Answering.{AnswerFails, AnswersPart, OfferFails, Offers, offer_at, offer_reply}
 use Rattle.warm_concurrent.specs.Gossip.{DigestsStop, ReceiveStops, RequestStops}
-use Rattle.warm_concurrent.specs.Whole.{AbsorbFails, RaiseFails, RaisesFirst, TakeFails, history_message, part_call, part_of}
+use Rattle.warm_concurrent.specs.Whole.{AbsorbFails, Does, RaiseFails, RaisesFirst, TakeFails, history_message, part_call, part_of}
 use Rattle.warm_concurrent.proofs.Gave.{EachGives, Gives, absorbed_each, all_given, answer_gives, as_given, gathered_each, given_as, given_by_sum, given_none, given_then, gives_as, gives_called, gives_none, message_each, none_twice, raised_each, taken_each}
 use Rattle.warm_concurrent.proofs.LawsHold.{below}
 use Rattle.warm_concurrent.proofs.Sets.{none_union, same_self, sum, union_none}
@@ -120,6 +121,27 @@ fails_each old new i c (Node w) none lt fails =
     one_nothing old new i lt fails.1 (gives_as (gave_call c (Refused w)) (set_of_list []) (shard_pass old i) (shard_pass new i) (none w) (gives_called (shard_pass old i) (shard_pass new i) c (Refused w) fails.0))
 fails_each old new i c TurnsSpent none lt fails = one_nothing old new i lt fails.1 (gives_spent (shard_pass old i) (shard_pass new i) fails.0)
 fails_each old new i c why none lt fails = absurd fails
+
+-- a call that is refused gave nothing
+gave_refused : (c : ShardCall) (w : NodeFault) → gave_call c (Refused w) ≡ set_of_list []
+gave_refused (Absorb batch) w = refl
+gave_refused (Raise time) w = refl
+gave_refused (TakeIn horizon es) w = refl
+gave_refused c w = refl
+
+sum_nothing : (n : ℕ) → sum nothing n ≡ set_of_list []
+sum_nothing zero = refl
+sum_nothing (suc n) = union_none (sum nothing n) ∙ sum_nothing n
+
+-- where some shards gave nothing, and the others were not called
+gave_nothing : (k : ℕ) (old new : List ShardPass) → EachGives nothing k old new
+    → HasGivenNothing old new
+gave_nothing k old new given =
+    let none : ReferenceSet = set_of_list [] in
+    given_by_sum nothing none old new (λ i lt. elim (below i k) [
+      | inl low ↦ given.first i low
+      | inr high ↦ gives_none (shard_pass old i) (shard_pass new i) (given.others i high)
+    ]) (subst (λ T. SameGiven T none) (sym (sum_nothing (length old))) (same_self none))
 
 -- ---- the parts of the first shards
 
@@ -345,4 +367,9 @@ threads_give old new count = record {
   joined = λ h so. all_given (references_of h) old new count (taken_each (history_message h) (length old) old new so);
   join_stopped = λ h k why so. take_stopped (history_message h) k why old new so;
   called = λ i call reply lt so. called_given old new i call reply lt so;
+  refused = λ i call why lt fails. gave_nothing (length old) old new (fails_each old new i call why (gave_refused call) lt fails);
+  done = λ call k none so. gave_nothing k old new (as_given (Does call) nothing k old new (λ i p q r. gives_as (gave_call call Done) (set_of_list []) p q none (gives_called p q call Done r)) so);
+  offered = λ offers k so. gave_nothing k old new (as_given (λ i. Offers (offer_at offers i) i) nothing k old new (λ i p q r. gives_called p q Offer (offer_reply (offer_at offers i)) r) so.1);
+  answered = λ request parts k so. gave_nothing k old new (as_given (λ i. AnswersPart (length old) request (slice_index_or parts i []) i) nothing k old new (λ i. answer_gives (length old) request (slice_index_or parts i []) i) so.1);
+  copied = λ copies k so. gave_nothing k old new (as_given (λ i. GivesCopy (slice_index_or copies i no_history) i) nothing k old new (λ i p q r. gives_called p q CopyHistory (Copied (slice_index_or copies i no_history)) r) so.1);
 }

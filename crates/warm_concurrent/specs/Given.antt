@@ -23,6 +23,7 @@ use Rattle.warm_peer.specs.Answers.{refs_in}
 use Rattle.warm_gossip.specs.State.{NodeState}
 use Rattle.warm_gossip.specs.Victims.{IsEvicted}
 use Rattle.warm_shards.specs.Shards.{AreShards, IsShardCount, of_first_shards, shard_at, whole}
+use Rattle.warm_concurrent.specs.declared.answering.Offered.{Offered}
 use Rattle.warm_concurrent.specs.declared.call.ShardCall.{ShardCall}
 use Rattle.warm_concurrent.specs.declared.call.ShardCall.TheVariants.{Absorb, Raise, Pin, Look, Change}
 use Rattle.warm_concurrent.specs.declared.call.ShardCall.TheVariants.{PinFilled, PinZeroed, TakeIn}
@@ -32,14 +33,16 @@ use Rattle.warm_concurrent.specs.declared.call.ShardReply.TheVariants.{Done, Kep
 use Rattle.warm_concurrent.specs.declared.fault.SharedFault.{SharedFault}
 use Rattle.warm_concurrent.specs.declared.gossip.NotReceived.{NotReceived}
 use Rattle.warm_concurrent.specs.declared.gossip.NotReceived.TheVariants.{Raising, Taking}
+use Rattle.warm_concurrent.specs.Answering.{AnswersFirst, OffersFirst}
 use Rattle.warm_concurrent.specs.Attached.{Known, ShardPass, ShardTurn, known_of, shard_turn}
-use Rattle.warm_concurrent.specs.Clauses.{AnsweredByShard}
+use Rattle.warm_concurrent.specs.Clauses.{AnsweredByShard, CallFails}
+use Rattle.warm_concurrent.specs.Copying.{CopiesFirst}
 use Rattle.warm_concurrent.specs.Gossip.{ReceiveStops, ShardsReceive}
 use Rattle.warm_concurrent.specs.Laws.{all_of}
 use Rattle.warm_concurrent.specs.Opening.{AreClosed, AreFirst, AreHalved, PassesAreJoined, AreSplit}
 use Rattle.warm_concurrent.specs.Opening.{openings, shards_over}
 use Rattle.warm_concurrent.specs.ShardSteps.{ShardState, ShardStep}
-use Rattle.warm_concurrent.specs.Whole.{AbsorbFails, AbsorbsFirst, JoinFails, JoinsFirst}
+use Rattle.warm_concurrent.specs.Whole.{AbsorbFails, AbsorbsFirst, DoneFirst, JoinFails, JoinsFirst}
 use Rattle.warm_concurrent.specs.Whole.{RaiseFails, RaisesFirst}
 
 -- Sets of references
@@ -127,6 +130,10 @@ pub record HasMade (old new : List ShardPass) (more : List Log) : Type 0 where
 abbrev pub HasGiven : ReferenceSet → List ShardPass → List ShardPass → Type 0
 HasGiven S old new = (more : List Log) × HasMade old new more × SameGiven (gave_together more) S
 
+-- together they gave nothing
+abbrev pub HasGivenNothing : List ShardPass → List ShardPass → Type 0
+HasGivenNothing old new = HasGiven (set_of_list []) old new
+
 -- what the first k of these shards have of a set of which each gets its part: nothing, if k is 0
 abbrev pub given_to_first : ℕ → ℕ → ReferenceSet → ReferenceSet
 given_to_first count zero S = set_of_list []
@@ -141,7 +148,9 @@ shards_given count why = count
 -- What a thread's call gave: the batch that it absorbed, the horizon that it raised, or the
 -- references and the horizon of the message that it received, or of the history that it joined; of
 -- each of these that stopped at a shard, just the parts of the shards before; and what any other
--- call of one shard gave that one.
+-- call of one shard gave that one. A call of one shard that was refused gave nothing, and neither did
+-- any other call of several shards. One of these that stops at a shard is such a call of the shards
+-- before, and one that is refused.
 pub record CallsAreGiven (old new : List ShardPass) : Type 0 where
   pub absorbed : (batch : List Reference) → AbsorbsFirst batch (length old) old new
       → HasGiven (set_of_list batch) old new
@@ -164,6 +173,16 @@ pub record CallsAreGiven (old new : List ShardPass) : Type 0 where
       → HasGiven (given_to_first (length old) k (references_of h)) old new
   pub called : (i : ℕ) (call : ShardCall) (reply : ShardReply) → i < length old
       → AnsweredByShard old i call reply new → HasGiven (gave_call call reply) old new
+  pub refused : (i : ℕ) (call : ShardCall) (why : SharedFault) → i < length old
+      → CallFails old i call why new → HasGivenNothing old new
+  pub done : (call : ShardCall) (k : ℕ) → gave_call call Done ≡ set_of_list []
+      → DoneFirst call k old new → HasGivenNothing old new
+  pub offered : (offers : List Offered) (k : ℕ) → OffersFirst offers k old new
+      → HasGivenNothing old new
+  pub answered : (request : ℕ) (parts : List (List Message)) (k : ℕ)
+      → AnswersFirst request parts k old new → HasGivenNothing old new
+  pub copied : (copies : List HistoryView) (k : ℕ) → CopiesFirst copies k old new
+      → HasGivenNothing old new
 
 abbrev pub ThreadsGive : Type 0
 ThreadsGive = (old new : List ShardPass) → IsShardCount (length old) → CallsAreGiven old new

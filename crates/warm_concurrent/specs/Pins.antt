@@ -1,8 +1,8 @@
 -- Pins: which calls give and remove them, and how many are left.
 --
 -- A frame has a pin count, and a slot names a frame. Neither says who pinned it: a thread may unpin
--- what another pinned. So what holds is a sum: the pins with which the shards opened, and those that
--- the calls of all threads gave, less those that these removed. It is three laws.
+-- what another pinned. So the count of a thread does not say which pages are pinned. There are
+-- three laws.
 --
 -- Of a shard (`PinsAreGiven`): a legal list of its calls leads from the pins of its pool to these,
 -- one more for each pin and one less for each unpin that it answered.
@@ -12,7 +12,7 @@
 --
 -- Of a close (`PinsComeBack`) by the thread that is left: the log of each shard has just these
 -- calls. So the nodes together have the pins with which they opened, and as many as the thread
--- counts.
+-- counts. While two threads are attached, no law says that the pools have as many as both count.
 --
 -- `detach` and `close` refuse a thread whose count is not 0 with `PinsHeld`, and change nothing. So
 -- after a close no page is pinned, if none was when the shards opened (`ClosesUnpinned`, a clause of

@@ -35,10 +35,10 @@ pub fn shards_are_of_given()
 
 /// What a thread's call gives the shards: just the references of the batch that it absorbs, just the
 /// horizon that it raises, just both of the message that it receives, or of the history that it
-/// joins. One that stops at a shard gives just the parts of the shards before, and any other call
-/// nothing. So two threads absorb a batch each, one is detached into the other, which closes the
-/// shards: all nodes come back, and together stand for what they opened with and both batches, and
-/// for nothing else.
+/// joins. One that stops at a shard gives just the parts of the shards before. Any other call gives
+/// nothing, and neither does one that a shard refuses. So two threads absorb a batch each, one is
+/// detached into the other, which closes the shards: all nodes come back, and together stand for
+/// what they opened with and both batches, and for nothing else.
 pub fn threads_give()
     ensures given { ThreadsGive }
     ensures two { TwoThreadsAreHeld }
@@ -47,8 +47,8 @@ pub fn threads_give()
 /// The page that a shard names as its victim, and each that leaves it where a page is pinned, looked
 /// at, changed or warmed up, is an unpinned resident page of greatest backward 2-distance, over all
 /// references that the calls of all threads had given the shard until then, not older than its
-/// horizon. So it is in every legal run of the shard's calls, and each call that a thread saw answered
-/// stands in one.
+/// horizon. So it is in every legal run of the shard's calls, and each call that a thread saw
+/// answered stands in one.
 pub fn shared_victims_are_farthest()
     ensures { SharedVictims }
 {}
