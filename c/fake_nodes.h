@@ -38,7 +38,7 @@ typedef struct fake {
     size_t frames, device_count, known, named; /* named: the page that is said to be loaded next */
     node_device devices[FAKE_DEVICES];
     bool waits[FAKE_DEVICES], has_failed[FAKE_DEVICES];
-    uint64_t horizon, writes;
+    uint64_t horizon, hits, misses, evictions, writes;
     node_failure failed;
     fake_frame at[FAKE_FRAMES];
 } fake;
@@ -161,10 +161,13 @@ static int fake_pin(fake *its, node_page page, const uint8_t *given, node_slot *
     bool is_there =
         frame->is_in && frame->page.no == page.no && frame->page.dev == page.dev;
     if (is_there && pins_are_full) return WARM_PINS_FULL;
+    if (is_there) its->hits++;
     if (!is_there) {
         uint8_t byte = 0;
         if (given == NULL && !fake_read(its, page, &byte)) return fake_unread(its, page);
         if (frame->is_in && frame->is_dirty && !fake_write(its, frame)) return WARM_EVICT_FAULT;
+        its->misses++;
+        its->evictions += frame->is_in;
         *frame = (fake_frame){.is_in = true, .page = page, .generation = frame->generation + 1};
         memcpy(frame->bytes, given != NULL ? given : &byte, its->page_size);
     }
@@ -276,10 +279,14 @@ int node_dirty(node *of, node_page page, bool *dirty) {
     return fake_out(of, WARM_OK);
 }
 
+/* How many frames nodes have looked at, one after another, for a dirty one. */
+static atomic_int frames_seen;
+
 int node_next_dirty(node *of, size_t from, bool *found, size_t *frame, node_page *page) {
     fake *its = fake_in(of);
     *found = false;
     for (size_t at = from; at < its->frames && !*found; at++) {
+        atomic_fetch_add_explicit(&frames_seen, 1, memory_order_relaxed);
         *found = its->at[at].is_in && its->at[at].is_dirty;
         if (!*found) continue;
         *frame = at;
@@ -311,26 +318,6 @@ int node_next(node *of, bool *found, node_page *page) {
     return fake_out(of, WARM_OK);
 }
 
-static int fake_write_back_some(node *of, size_t limit, size_t *left) {
-    fake *its = fake_in(of);
-    *left = 0;
-    for (size_t at = 0; at < its->frames; at++) {
-        if (!its->at[at].is_dirty) continue;
-        if (limit > 0 && !fake_write(its, &its->at[at])) return fake_out(of, WARM_WRITE_FAULT);
-        if (limit == 0) ++*left;
-        if (limit > 0) limit--;
-    }
-    return fake_out(of, WARM_OK);
-}
-
-/* How many portions were asked for. */
-static atomic_int portions;
-
-int node_write_back_some(node *of, size_t limit, size_t *left) {
-    portions++;
-    return fake_write_back_some(of, limit, left);
-}
-
 int node_write_back_page(node *of, node_page page, bool *written) {
     fake *its = fake_in(of);
     fake_frame *frame = fake_frame_for(its, page);
@@ -348,15 +335,6 @@ int node_flush(node *of, uint16_t dev) {
         if (its->at[at].is_dirty && its->at[at].page.dev == dev && !fake_write(its, &its->at[at]))
             return fake_out(of, WARM_WRITE_FAULT);
     return fake_out(of, fake_flush(its, dev) ? WARM_OK : WARM_WRITE_FAULT);
-}
-
-/* All pages first, in the order of frames, up to the first that fails. */
-int node_write_back(node *of) {
-    size_t left;
-    int status = fake_write_back_some(of, SIZE_MAX, &left);
-    for (uint16_t dev = 0; status == WARM_OK && dev < ((fake *)of->at)->device_count; dev++)
-        status = node_flush(of, dev);
-    return status;
 }
 
 static bool fake_has_pins(const fake *its, uint16_t dev, uint64_t from) {
@@ -408,9 +386,14 @@ int node_replace(node *of, uint16_t dev, const node_device *device) {
 
 int node_counts(node *of, node_counters *counters) {
     fake *its = fake_in(of);
-    *counters = (node_counters){
-        .hits = 1, .misses = 2, .evictions = 3, .written_back = its->writes, .dirty = 5};
-    for (size_t at = 0; at < its->frames; at++) counters->resident += its->at[at].is_in;
+    *counters = (node_counters){.hits = its->hits,
+        .misses = its->misses,
+        .evictions = its->evictions,
+        .written_back = its->writes};
+    for (size_t at = 0; at < its->frames; at++) {
+        counters->resident += its->at[at].is_in;
+        counters->dirty += its->at[at].is_dirty;
+    }
     return fake_out(of, WARM_OK);
 }
 

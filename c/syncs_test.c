@@ -77,75 +77,6 @@ static void test_failed_syncs(void) {
     }
 }
 
-static void test_portions(void) {
-    warm handle = {0};
-    size_t left;
-    open_shards(&handle, 4);
-    write_each(&handle, 0, 8);
-    OK(warm_write_back_some(&handle, 0, &left));
-    MUST(left == 8);
-    OK(warm_write_back_some(&handle, 3, &left)); /* two of shard 0, one of shard 1 */
-    MUST(left == 5);
-    OK(warm_write_back_some(&handle, 5, &left));
-    MUST(left == 0);
-    OK(warm_abandon(&handle));
-}
-
-/* How many nodes are asked for a portion, which leaves this many pages. */
-static int asked_for(warm *handle, size_t limit, size_t left) {
-    size_t got = 77;
-    portions = 0;
-    OK(warm_write_back_some(handle, limit, &got));
-    MUST(got == left);
-    return portions;
-}
-
-enum { WAYS = 4 };
-
-/* Makes a page dirty in each way that there is. */
-static void make_dirty(warm *handle, uint64_t no, int way) {
-    warm_slot slot;
-    uint8_t *bytes;
-    if (way == 0) OK(warm_pin_zeroed(handle, page_at(no), &slot));
-    else slot = pin(handle, no);
-    if (way == 1) OK(warm_write(handle, slot, 0, "a", 1));
-    if (way == 2) OK(warm_bytes_mut(handle, slot, &bytes));
-    if (way == 3) OK(warm_mark_dirty(handle, slot));
-    OK(warm_unpin(handle, slot));
-}
-
-static bool is_first_stuck(node_page page) { return page.no == 1; }
-
-/* A node whose pages are all written is asked for no portion, since it would look at each frame. */
-static void test_clean_shards(void) {
-    warm handle = {0};
-    size_t left;
-    OK(open_with(&handle, 1, 4, 16, devices, FAKE_DEVICES));
-    MUST(read_from(&handle, page_at(1)) == 0 && asked_for(&handle, 9, 0) == 0);
-    for (int way = 0; way < WAYS; way++) {
-        make_dirty(&handle, 1, way);
-        MUST(asked_for(&handle, 0, 1) == 1 && asked_for(&handle, 1, 0) == 1);
-        MUST(asked_for(&handle, SIZE_MAX, 0) == 0);
-        make_dirty(&handle, 1, way);
-        make_dirty(&handle, 5, way); /* of the same shard */
-        MUST(asked_for(&handle, 1, 1) == 1 && asked_for(&handle, 1, 0) == 1);
-        make_dirty(&handle, 1, way);
-        OK(warm_flush_device(&handle, 1)); /* of another device */
-        MUST(asked_for(&handle, 0, 1) == 1);
-        OK(warm_write_back_all(&handle));
-        MUST(asked_for(&handle, 9, 0) == 0);
-        make_dirty(&handle, 1, way);
-        is_stuck = is_first_stuck;
-        MUST(warm_write_back_all(&handle) == WARM_WRITE_FAULT);
-        MUST(warm_write_back_some(&handle, 9, &left) == WARM_WRITE_FAULT);
-        is_stuck = NULL;
-        MUST(asked_for(&handle, 9, 0) == 1 && asked_for(&handle, 9, 0) == 0);
-    }
-    no_pins(&handle);
-    OK(warm_close(&handle));
-    nothing_left();
-}
-
 static void each_has(warm *handle, uint16_t dev, int fd) {
     opened *its = handle->at;
     for (size_t number = 0; number < its->count; number++)
@@ -775,8 +706,6 @@ static void test_failing_read(void) {
 int main(void) {
     test_syncs();
     test_failed_syncs();
-    test_portions();
-    test_clean_shards();
     test_one_page();
     test_replacing();
     test_going_back();

@@ -362,11 +362,14 @@ static void test_counts(void) {
     warm_device_counters of_device;
     open_shards(&handle, 4);
     OK(warm_counts(&handle, &counters));
-    MUST(counters.hits == 4 && counters.misses == 8 && counters.evictions == 12 &&
-         counters.resident == 0 && counters.dirty == 20);
+    MUST(counters.hits == 0 && counters.misses == 0 && counters.evictions == 0 &&
+         counters.written_back == 0 && counters.resident == 0 && counters.dirty == 0);
     write_each(&handle, 1, 6);
+    write_each(&handle, 1, 3); /* again */
+    for (uint64_t no = 6; no < 10; no++) read_from(&handle, (warm_page){.no = no, .dev = 1});
     OK(warm_counts(&handle, &counters));
-    MUST(counters.resident == 6);
+    MUST(counters.hits == 3 && counters.misses == 10 && counters.evictions == 2 &&
+         counters.written_back == 2 && counters.resident == 8 && counters.dirty == 4);
     OK(warm_device_counts(&handle, 0, &of_device));
     MUST(of_device.reads == 4 && of_device.writes == 8 && of_device.flushes == 0 &&
          of_device.failures == 4); /* no node is asked for a flush */

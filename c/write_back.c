@@ -108,11 +108,11 @@ static size_t write_between(
     return frame;
 }
 
-/* Returns how many pages of a shard are dirty. */
+/* Returns how many pages of a shard are dirty. The node has counted them. */
 static size_t dirty_in(shard *in) {
-    size_t count = 0;
-    node_write_back_some(&in->node, 0, &count);
-    return count;
+    node_counters counted = {0};
+    node_counts(&in->node, &counted);
+    return counted.dirty;
 }
 
 /* ---- portions, and one page ---- */

@@ -16,6 +16,10 @@
  * Latches on pages are the caller's (docs/C.md): a page's latch is held while its bytes are read or written. There is no other: before a page is
  * written to its file the device tries the page's latch, and skips the page where another thread has it to write. While it has the latch the page is
  * as the model says, and so is what is written.
+ *
+ * Each device has two files, whose pages have other bytes, and one of them is put in place of the
+ * other. Who pins a page after that sees what the new one has, also where it was being read
+ * meanwhile; and what was written before that is in the old one.
  */
 #define _GNU_SOURCE /* mkstemp */
 #include <errno.h>
@@ -29,9 +33,11 @@
 #include <time.h>
 #include <unistd.h>
 
+#include "latches.h"
 #include "warm.h"
 
-enum { PAGE_SIZE = 512, WORDS = PAGE_SIZE / 8, DEVICES = 2, PAGES = 512, FRAMES = 256, BUCKETS = 64 };
+enum { PAGE_SIZE = 512, WORDS = PAGE_SIZE / 8, PAGES = 512, FRAMES = 256, BUCKETS = 64 };
+enum { DEVICES = 2, SIDES = 2 };
 enum { MOST_THREADS = 16, MOST_HELD = 3, BATCH = 64, FRAME_ROOM = 32768, FRAME_ENTRIES = 23, PEER = 64, WINDOW = 30000 };
 
 _Noreturn static void fail(const char *what, int line) {
@@ -50,50 +56,25 @@ static void is(int wanted, int status, const char *call, int line) {
 
 /* ---- the model ---- */
 
-/* A latch of several readers or one writer, whose lock is held while nothing is waited for but itself: so who is in a shard may try it, and no order of
- * locks is turned round. */
-typedef struct latch {
-    pthread_mutex_t lock;
-    pthread_cond_t freed;
-    unsigned readers;
-    bool has_writer;
-} latch;
+/* One of the two files of a device. */
+typedef struct side {
+    uint16_t dev;
+    unsigned number;
+    int fd;
+} side;
 
-static bool try_shared(latch *of) {
-    pthread_mutex_lock(&of->lock);
-    bool is_free = !of->has_writer;
-    if (is_free) of->readers++;
-    pthread_mutex_unlock(&of->lock);
-    return is_free;
-}
+/* While a thread puts one side of a device in place of the other, the number of steps is odd. */
+static struct medium {
+    pthread_mutex_t lock; /* one thread at a time does so */
+    atomic_uint steps, current;
+    side sides[SIDES];
+} media[DEVICES];
 
-static void latch_shared(latch *of) {
-    pthread_mutex_lock(&of->lock);
-    while (of->has_writer) pthread_cond_wait(&of->freed, &of->lock);
-    of->readers++;
-    pthread_mutex_unlock(&of->lock);
-}
-
-static void latch_alone(latch *of) {
-    pthread_mutex_lock(&of->lock);
-    while (of->has_writer || of->readers > 0) pthread_cond_wait(&of->freed, &of->lock);
-    of->has_writer = true;
-    pthread_mutex_unlock(&of->lock);
-}
-
-static void unlatch(latch *of) {
-    pthread_mutex_lock(&of->lock);
-    if (of->has_writer) of->has_writer = false;
-    else of->readers--;
-    pthread_cond_broadcast(&of->freed);
-    pthread_mutex_unlock(&of->lock);
-}
-
-/* What a page holds, under its latch; and its pins. */
+/* What a page holds on each side, under its latch; and its pins. */
 static struct page {
     latch latch;
-    uint64_t version; /* 0: zeros */
-    uint64_t writes;  /* how often a version was given */
+    uint64_t versions[SIDES]; /* 0: zeros */
+    uint64_t writes;          /* how often a version was given, on both */
     atomic_uint pins, reads, asks; /* reads: of the file, under way; asks: of the device, before a write, until after it */
 } pages[DEVICES][PAGES];
 
@@ -125,8 +106,8 @@ static struct player players[MOST_THREADS], peer_player; /* those of the peer's 
 static warm first, peer;                                 /* of one thread at a time, by these locks */
 static pthread_mutex_t first_lock = PTHREAD_MUTEX_INITIALIZER, peer_lock = PTHREAD_MUTEX_INITIALIZER;
 static size_t shards;
-static int files[DEVICES], dump; /* that of the peer's lock */
-static atomic_uint_fast64_t now = 1, horizon, out_of_time;
+static int dump; /* that of the peer's lock */
+static atomic_uint_fast64_t now = 1, horizon, out_of_time, replaced;
 static atomic_bool is_over;
 
 static uint64_t draw(struct player *player) {
@@ -144,6 +125,19 @@ static warm_page draw_page(struct player *player) {
 
 static struct page *model_of(warm_page page) { return &pages[page.dev][page.no]; }
 
+/* Of a page that is pinned, or being written: so its device keeps its side. */
+static uint64_t *version_of(warm_page page) {
+    return &model_of(page)->versions[atomic_load(&media[page.dev].current)];
+}
+
+/* Of a page that is pinned: a thread that replaced its device before has said so then. */
+static void settle(warm_page page) {
+    atomic_uint *steps = &media[page.dev].steps;
+    unsigned seen = atomic_load(steps);
+    while (seen % 2 == 1 && atomic_load(steps) == seen)
+        nanosleep(&(struct timespec){.tv_nsec = 10000}, NULL);
+}
+
 /* The bytes of a page in a version. */
 static void fill(uint64_t *words, warm_page page, uint64_t version) {
     uint64_t word = version == 0 ? 0 : (version * PAGES + page.no) * DEVICES + page.dev + 1;
@@ -153,7 +147,7 @@ static void fill(uint64_t *words, warm_page page, uint64_t version) {
 /* The caller has the page's latch. */
 static void check_bytes(const uint8_t *bytes, warm_page page) {
     uint64_t words[WORDS];
-    fill(words, page, model_of(page)->version);
+    fill(words, page, *version_of(page));
     MUST(memcmp(bytes, words, PAGE_SIZE) == 0);
 }
 
@@ -161,65 +155,78 @@ static void check_bytes(const uint8_t *bytes, warm_page page) {
 
 static atomic_uint_fast64_t skipped;
 
-static uint16_t dev_of(const void *context) { return context == pages[1]; }
+static warm_page page_of(const side *of, uint64_t no) {
+    MUST(no < PAGES);
+    return (warm_page){.dev = of->dev, .no = no};
+}
 
-/* One call at a time is asked about a page, and writes it. */
+/* One call at a time is asked about a page, and writes it, to the side that its device has. */
 static int try_latch(void *context, uint64_t no, const void *bytes, size_t length) {
-    struct page *of = context;
-    MUST(no < PAGES && length == PAGE_SIZE && atomic_fetch_add(&of[no].asks, 1) == 0);
-    if (try_shared(&of[no].latch)) {
-        check_bytes(bytes, (warm_page){.dev = dev_of(context), .no = no});
+    const side *of = context;
+    warm_page page = page_of(of, no);
+    struct page *model = model_of(page);
+    MUST(length == PAGE_SIZE && atomic_fetch_add(&model->asks, 1) == 0);
+    MUST(atomic_load(&media[of->dev].current) == of->number);
+    if (try_shared(&model->latch)) {
+        check_bytes(bytes, page);
         return 0;
     }
-    atomic_fetch_sub(&of[no].asks, 1);
+    atomic_fetch_sub(&model->asks, 1);
     atomic_fetch_add(&skipped, 1);
     return EAGAIN;
 }
 
 static void release_latch(void *context, uint64_t no, int error) {
-    struct page *of = context;
-    MUST(error == 0 && atomic_fetch_sub(&of[no].asks, 1) == 1);
-    unlatch(&of[no].latch);
+    struct page *model = model_of(page_of(context, no));
+    MUST(error == 0 && atomic_fetch_sub(&model->asks, 1) == 1);
+    unlatch(&model->latch);
 }
 
 static const warm_device_ops latching = {.size = sizeof latching, .before_write = try_latch, .after_write = release_latch};
 
 /* The second device has calls of its own. Threads wait for its slow reads, and go on while it is slow to write; and no page is written while it is
  * read. */
-static int file_of(const void *context) { return files[dev_of(context)]; }
-
 static void wait_now_and_then(void) {
     static _Thread_local unsigned calls;
     if (++calls % 16 == 0) nanosleep(&(struct timespec){.tv_nsec = 100000}, NULL);
 }
 
 static int read_slowly(void *context, uint64_t no, void *into, size_t length) {
-    struct page *of = context;
-    atomic_fetch_add(&of[no].reads, 1);
+    const side *of = context;
+    struct page *model = model_of(page_of(of, no));
+    atomic_fetch_add(&model->reads, 1);
     memset(into, 0, length); /* past the end of the file are zeros */
-    bool is_read = pread(file_of(context), into, length, (off_t)(no * PAGE_SIZE)) >= 0;
+    bool is_read = pread(of->fd, into, length, (off_t)(no * PAGE_SIZE)) >= 0;
     wait_now_and_then();
-    MUST(is_read && atomic_fetch_sub(&of[no].reads, 1) == 1); /* nobody else reads it */
+    MUST(is_read && atomic_fetch_sub(&model->reads, 1) == 1); /* nobody else reads it */
     return 0;
 }
 
 static int write_whole(void *context, uint64_t no, const void *bytes, size_t length) {
-    struct page *of = context;
-    check_bytes(bytes, (warm_page){.dev = dev_of(context), .no = no});
+    const side *of = context;
+    warm_page page = page_of(of, no);
+    struct page *model = model_of(page);
+    check_bytes(bytes, page);
     wait_now_and_then();
-    check_bytes(bytes, (warm_page){.dev = dev_of(context), .no = no});
-    MUST(atomic_load(&of[no].reads) == 0 && pwrite(file_of(context), bytes, length, (off_t)(no * PAGE_SIZE)) == (ssize_t)length);
-    MUST(atomic_load(&of[no].reads) == 0);
+    check_bytes(bytes, page);
+    MUST(atomic_load(&model->reads) == 0);
+    MUST(pwrite(of->fd, bytes, length, (off_t)(no * PAGE_SIZE)) == (ssize_t)length);
+    MUST(atomic_load(&model->reads) == 0);
     return 0;
 }
 
-static int sync_file_of(void *context) { return fsync(file_of(context)) == 0 ? 0 : errno; }
+static int sync_side(void *context) { return fsync(((const side *)context)->fd) == 0 ? 0 : errno; }
 
-static const warm_device_ops calling = {.size = sizeof calling, .read = read_slowly, .write = write_whole, .sync = sync_file_of,
-    .before_write = try_latch, .after_write = release_latch};
+static const warm_device_ops calling = {.size = sizeof calling,
+    .read = read_slowly,
+    .write = write_whole,
+    .sync = sync_side,
+    .before_write = try_latch,
+    .after_write = release_latch};
 
-static warm_device device_of(uint16_t dev) {
-    return (warm_device){.pages = PAGES, .fd = files[dev], .ops = dev == 0 ? &latching : &calling, .context = pages[dev]};
+static warm_device device_over(side *of) {
+    const warm_device_ops *ops = of->dev == 0 ? &latching : &calling;
+    return (warm_device){.pages = PAGES, .fd = of->fd, .ops = ops, .context = of};
 }
 
 /* ---- references of the model ---- */
@@ -270,6 +277,7 @@ static bool pins(struct player *player, warm_page page, warm_slot *slot, const u
         return false;
     }
     OK(status);
+    settle(page);
     if (!is_one_call) OK(warm_bytes(&player->handle, *slot, bytes));
     MUST(slot->shard == (page.dev + page.no) % BUCKETS % shards && slot->index < FRAMES / shards);
     atomic_fetch_add(&model_of(page)->pins, 1);
@@ -338,7 +346,7 @@ static void give_version(struct player *player, struct held held, uint64_t versi
     } else {
         write_in_place(player, held, version);
     }
-    model_of(held.page)->version = version;
+    *version_of(held.page) = version;
     check_bytes(held.bytes, held.page);
 }
 
@@ -404,12 +412,22 @@ static void write_back(struct player *player) {
     MUST((status == WARM_OK || status == WARM_SKIPPED) && left <= FRAMES);
 }
 
-/* The file of a device in place of itself: where no page of it is pinned or is skipped, all of them leave their frames, and are written. */
+/* The other side of a device in its place: where no page of it is pinned or is skipped, all of them
+ * leave their frames, and are written. */
 static void replace(struct player *player) {
     uint16_t dev = draw(player) % DEVICES;
-    const warm_device itself = device_of(dev);
-    int status = warm_replace(&player->handle, dev, &itself);
+    struct medium *of = &media[dev];
+    if (draw(player) % 2 == 0) release(player, 0); /* it has no pin by itself */
+    pthread_mutex_lock(&of->lock);
+    unsigned other = 1 - atomic_load(&of->current);
+    const warm_device device = device_over(&of->sides[other]);
+    atomic_fetch_add(&of->steps, 1);
+    int status = warm_replace(&player->handle, dev, &device);
+    if (status == WARM_OK) atomic_store(&of->current, other);
+    atomic_fetch_add(&of->steps, 1);
+    pthread_mutex_unlock(&of->lock);
     MUST(status == WARM_OK || status == WARM_PINNED || status == WARM_WRITE_FAULT);
+    if (status == WARM_OK) atomic_fetch_add(&replaced, 1);
     OK(warm_forget_pages(&player->handle, dev, PAGES)); /* a device has no such page */
 }
 
@@ -591,18 +609,23 @@ static void check_frames(size_t shard) {
     while (taken > 0) OK(warm_unpin(&first, slots[--taken]));
 }
 
+static void check_side(const side *of) {
+    for (uint64_t no = 0; no < PAGES; no++) {
+        uint64_t words[WORDS], wanted[WORDS];
+        warm_page page = page_of(of, no);
+        memset(words, 0, sizeof words); /* past the end of the file are zeros */
+        MUST(pread(of->fd, words, PAGE_SIZE, (off_t)(no * PAGE_SIZE)) >= 0);
+        fill(wanted, page, model_of(page)->versions[of->number]);
+        MUST(memcmp(words, wanted, PAGE_SIZE) == 0 && atomic_load(&model_of(page)->pins) == 0);
+    }
+}
+
 /* What is in the files once all was written back; and that no pin is left, as all pages may leave their frames. */
 static void check_files(void) {
-    uint8_t bytes[PAGE_SIZE];
     OK(warm_write_back_all(&first));
     for (uint16_t dev = 0; dev < DEVICES; dev++) {
         OK(warm_forget_pages(&first, dev, 0));
-        for (uint64_t no = 0; no < PAGES; no++) {
-            memset(bytes, 0, sizeof bytes); /* past the end of the file are zeros */
-            MUST(pread(files[dev], bytes, PAGE_SIZE, (off_t)(no * PAGE_SIZE)) >= 0);
-            check_bytes(bytes, (warm_page){.dev = dev, .no = no});
-            MUST(atomic_load(&pages[dev][no].pins) == 0);
-        }
+        for (int at = 0; at < SIDES; at++) check_side(&media[dev].sides[at]);
     }
 }
 
@@ -698,14 +721,29 @@ static int temporary(void) {
     return fd;
 }
 
+/* The pages of the second side have a version from the start. */
+static void make_side(side *of, uint16_t dev, unsigned number) {
+    *of = (side){.dev = dev, .number = number, .fd = temporary()};
+    if (number == 0) return;
+    for (uint64_t no = 0; no < PAGES; no++) {
+        uint64_t words[WORDS];
+        warm_page page = page_of(of, no);
+        model_of(page)->versions[number] = ++model_of(page)->writes;
+        fill(words, page, model_of(page)->versions[number]);
+        MUST(pwrite(of->fd, words, PAGE_SIZE, (off_t)(no * PAGE_SIZE)) == PAGE_SIZE);
+    }
+}
+
 static void open_all(void) {
     warm_device devices[DEVICES];
     const warm_options options = {.size = sizeof options, .replica = 1, .shards = shards, .frames = FRAMES, .page_size = PAGE_SIZE,
         .devices = devices, .device_count = DEVICES};
     const warm_options alone = {.size = sizeof alone, .replica = 2};
     for (uint16_t dev = 0; dev < DEVICES; dev++) {
-        files[dev] = temporary();
-        devices[dev] = device_of(dev);
+        struct medium *its = &media[dev];
+        MUST(pthread_mutex_init(&its->lock, NULL) == 0);
+        for (unsigned at = 0; at < SIDES; at++) make_side(&its->sides[at], dev, at);
+        devices[dev] = device_over(&its->sides[0]);
         for (int no = 0; no < PAGES; no++) {
             latch *of = &pages[dev][no].latch;
             MUST(pthread_mutex_init(&of->lock, NULL) == 0 && pthread_cond_init(&of->freed, NULL) == 0);
@@ -751,9 +789,11 @@ int main(int count, char **words) {
         calls += players[at].calls;
     }
     check_end();
-    for (int dev = 0; dev < DEVICES; dev++) close(files[dev]);
+    for (int at = 0; at < DEVICES * SIDES; at++) close(media[at / SIDES].sides[at % SIDES].fd);
     close(dump);
-    printf("stress: %zu shards, %u threads, %llu calls as expected, %llu out of time, %llu pages skipped\n", shards, threads,
-        (unsigned long long)calls, (unsigned long long)atomic_load(&out_of_time), (unsigned long long)atomic_load(&skipped));
+    printf("stress: %zu shards, %u threads, %llu calls as expected, %llu out of time, "
+           "%llu pages skipped, %llu devices replaced\n",
+        shards, threads, (unsigned long long)calls, (unsigned long long)atomic_load(&out_of_time),
+        (unsigned long long)atomic_load(&skipped), (unsigned long long)atomic_load(&replaced));
     return 0;
 }

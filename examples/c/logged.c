@@ -1,9 +1,10 @@
 /* The log before the page: before_write of a device. One that skips pages for ever, one that syncs a log and then lets go, one for each of two
  * devices, and one over a second handle. Pages that are skipped keep back no other. And kill -9 at any moment: no page is in its file before its log
- * record is in the log. */
+ * record is in the log, whether one thread changes pages or several do. */
 #define _GNU_SOURCE /* mkstemp, fork */
 #include <errno.h>
 #include <fcntl.h>
+#include <pthread.h>
 #include <signal.h>
 #include <sys/stat.h>
 #include <sys/wait.h>
@@ -11,7 +12,17 @@
 #define PROGRAM "logged"
 #include "expect.h"
 
-enum { PAGE_SIZE = 512, PAGES = 40, KILLS = 50, MOST_KILLS = 10 * KILLS, RECORDS = 64, FEW_CHANGES = 200, MOST_SECONDS = 600 };
+enum { PAGE_SIZE = 512, PAGES = 40, RECORDS = 64 };
+
+/* A process is at work after so many changes of each thread. */
+enum {
+    KILLS = 50,
+    KILLS_IN_THREADS = 12,
+    MOST_THREADS = 4,
+    AT_WORK = 16,
+    MOST_MICROSECONDS = 8000,
+    MOST_SECONDS = 600
+};
 
 /* ---- what is asked, and what it does ---- */
 
@@ -255,15 +266,20 @@ typedef struct record {
     uint64_t version, no;
 } record;
 
-/* An engine: records wait in memory until its log is synced up to a version. */
+/* An engine: records wait in memory until its log is synced up to a version. With its lock a thread
+ * waits for the log alone: before_write takes it, which may be asked with a shard locked. */
 typedef struct engine {
-    int log;
-    uint64_t synced;
+    pthread_mutex_t lock;
+    int data, log, begun;     /* begun: of a pipe, to which it writes once it is at work */
+    uint64_t version, synced; /* of the last change, and of the last one that the log has */
+    uint64_t at_work;         /* the version with which it is */
     size_t waiting;
     record records[RECORDS];
     bool is_eager; /* its callback syncs the log, and else skips the page */
+    bool is_alone; /* one thread alone changes pages */
 } engine;
 
+/* With the engine's lock. */
 static void sync_log(engine *it) {
     size_t length = it->waiting * sizeof(record);
     if (length == 0) return;
@@ -272,47 +288,137 @@ static void sync_log(engine *it) {
     it->waiting = 0;
 }
 
-static int after_log(void *context, uint64_t no, const void *bytes, size_t length) {
-    engine *it = context;
+static void lock_and_sync_log(engine *it) {
+    pthread_mutex_lock(&it->lock);
+    sync_log(it);
+    pthread_mutex_unlock(&it->lock);
+}
+
+/* Whether the log has the last change of a page; where it may be synced for that, it has. */
+static bool is_logged(engine *it, uint64_t no, const void *bytes, bool may_sync) {
     record page;
     memcpy(&page, bytes, sizeof page);
-    MUST(length == PAGE_SIZE && no == page.no);
-    if (page.version > it->synced && it->is_eager) sync_log(it);
-    return page.version > it->synced ? EAGAIN : 0;
+    MUST(page.no == no);
+    pthread_mutex_lock(&it->lock);
+    if (page.version > it->synced && may_sync) sync_log(it);
+    bool is_so = page.version <= it->synced;
+    pthread_mutex_unlock(&it->lock);
+    return is_so;
 }
 
-static const warm_device_ops after_the_log = {.size = sizeof after_the_log, .before_write = after_log};
+/* Now and then other threads have the time to change the page, if they do not wait until it is
+ * copied. */
+static int after_log(void *context, uint64_t no, const void *bytes, size_t length) {
+    static _Thread_local unsigned asked;
+    engine *it = context;
+    MUST(length == PAGE_SIZE);
+    bool is_so = is_logged(it, no, bytes, it->is_eager);
+    if (!it->is_alone && ++asked % 2 == 0) usleep(100);
+    return is_so ? 0 : EAGAIN;
+}
 
-/* Refused calls are made again once the log is synced. */
-static void change_page(engine *it, warm *handle, record change) {
-    warm_slot slot;
+static const warm_device_ops after_the_log = {
+    .size = sizeof after_the_log, .before_write = after_log};
+
+/* The same for several threads. A write takes a moment, in which they change pages, or are killed:
+ * the log has what is written, as it was asked about that. */
+static int read_data(void *context, uint64_t no, void *into, size_t length) {
+    const engine *it = context;
+    memset(into, 0, length); /* behind the end of the file are zeros */
+    return pread(it->data, into, length, (off_t)(no * PAGE_SIZE)) < 0 ? errno : 0;
+}
+
+static int write_data(void *context, uint64_t no, const void *bytes, size_t length) {
+    engine *it = context;
+    usleep(50);
+    MUST(is_logged(it, no, bytes, false));
+    return pwrite(it->data, bytes, length, (off_t)(no * PAGE_SIZE)) == (ssize_t)length ? 0 : EIO;
+}
+
+static int sync_data(void *context) {
+    const engine *it = context;
+    return fdatasync(it->data) == 0 ? 0 : errno;
+}
+
+static const warm_device_ops slow_after_the_log = {.size = sizeof slow_after_the_log,
+    .read = read_data,
+    .write = write_data,
+    .sync = sync_data,
+    .before_write = after_log};
+
+/* The next change, of this page. Its record waits then. */
+static record log_change(engine *it, uint64_t no) {
+    pthread_mutex_lock(&it->lock);
     if (it->waiting == RECORDS) sync_log(it);
+    record change = {.version = ++it->version, .no = no};
     it->records[it->waiting++] = change;
-    int status = warm_pin(handle, (warm_page){.no = change.no}, &slot);
-    if (status == WARM_EVICT_FAULT && !it->is_eager) {
-        sync_log(it);
-        status = warm_pin(handle, (warm_page){.no = change.no}, &slot);
-    }
-    OK(status);
-    OK(warm_write(handle, slot, 0, (const uint8_t *)&change, sizeof change));
-    OK(warm_unpin(handle, slot));
+    pthread_mutex_unlock(&it->lock);
+    if (change.version == it->at_work) MUST(write(it->begun, "", 1) == 1);
+    return change;
 }
 
-/* Changes pages until it is killed; by itself, where the parent was killed first. */
-static void change_pages(int fd, int log, uint64_t version, unsigned seed) {
-    engine it = {.log = log, .synced = version, .is_eager = seed % 2 == 0};
-    const warm_device device = device_with(fd, &after_the_log, &it);
-    warm handle = {0};
-    alarm(MOST_SECONDS);
-    srand(seed);
-    OK(open_with(&handle, 1, 1, 4, PAGE_SIZE, &device, 1));
-    for (;;) {
-        record change = {.version = ++version, .no = (uint64_t)rand() % PAGES};
-        change_page(&it, &handle, change);
-        if (rand() % 50 > 0) continue;
-        sync_log(&it);
-        OK(warm_write_back_all(&handle));
+/* Refused calls are made again once the log is synced: by one thread once; by several until other
+ * ones have not changed all pages since. */
+static void change_page(engine *it, warm *handle, uint64_t no) {
+    const record change = log_change(it, no);
+    warm_slot slot;
+    int status = warm_pin(handle, (warm_page){.no = no}, &slot);
+    for (int tries = 0; status == WARM_EVICT_FAULT && (tries == 0 || !it->is_alone); tries++) {
+        MUST(!it->is_eager);
+        lock_and_sync_log(it);
+        status = warm_pin(handle, (warm_page){.no = no}, &slot);
     }
+    MUST(status == WARM_OK);
+    MUST(warm_write(handle, slot, 0, (const uint8_t *)&change, sizeof change) == WARM_OK);
+    MUST(warm_unpin(handle, slot) == WARM_OK);
+}
+
+/* Until the process is killed. */
+_Noreturn static void change_pages(engine *it, warm *handle, unsigned seed) {
+    for (;;) {
+        change_page(it, handle, (uint64_t)rand_r(&seed) % PAGES);
+        if (rand_r(&seed) % 50 > 0) continue;
+        lock_and_sync_log(it);
+        int status = warm_write_back_all(handle);
+        MUST(status == WARM_OK || (status == WARM_SKIPPED && !it->is_alone && !it->is_eager));
+    }
+}
+
+/* A thread with a handle of its own. */
+typedef struct changer {
+    pthread_t thread;
+    warm handle;
+    engine *of;
+    unsigned seed;
+} changer;
+
+static void *work(void *of) {
+    changer *its = of;
+    change_pages(its->of, &its->handle, its->seed);
+}
+
+/* Changes pages until it is killed; by itself, where the parent was killed first. One thread is
+ * alone with the replica, so that its node writes; each of several has attached a handle, and then
+ * pages are written with no shard locked. */
+_Noreturn static void live(engine *it, unsigned at, size_t threads) {
+    static changer changers[MOST_THREADS];
+    size_t shards = threads > 1 && at % 12 >= 6 ? 4 : 1;
+    const warm_device_ops *ops = threads > 1 ? &slow_after_the_log : &after_the_log;
+    const warm_device device = device_with(it->data, ops, it);
+    warm first = {0};
+    alarm(MOST_SECONDS);
+    it->is_eager = at % 2 == 0;
+    it->is_alone = threads == 1;
+    OK(open_with(&first, 1, shards, 4 * shards, PAGE_SIZE, &device, 1));
+    if (it->is_alone) change_pages(it, &first, at);
+    for (size_t i = 0; i < threads; i++) {
+        changers[i].of = it;
+        changers[i].seed = at * MOST_THREADS + (unsigned)i;
+        OK(warm_attach(&first, &changers[i].handle));
+    }
+    for (size_t i = 0; i < threads; i++)
+        MUST(pthread_create(&changers[i].thread, NULL, work, &changers[i]) == 0);
+    for (;;) pause();
 }
 
 /* Whether the log has the record of each page in the file; and its latest version. */
@@ -333,26 +439,43 @@ static uint64_t check_order(int fd, int log) {
     return latest;
 }
 
-static void killed(void) {
+/* Kills a process at any moment once it is at work. None ended before, by a fault of its own. */
+static void kill_one(int fd, int log, uint64_t latest, unsigned at, size_t threads) {
+    int begun[2], status;
+    uint8_t byte;
+    MUST(pipe(begun) == 0);
+    engine its = {.lock = PTHREAD_MUTEX_INITIALIZER,
+        .data = fd,
+        .log = log,
+        .begun = begun[1],
+        .version = latest,
+        .synced = latest,
+        .at_work = latest + AT_WORK * threads};
+    pid_t child = fork();
+    MUST(child >= 0);
+    if (child == 0) live(&its, at, threads);
+    close(begun[1]);
+    MUST(read(begun[0], &byte, 1) == 1);
+    usleep((unsigned)rand() % MOST_MICROSECONDS);
+    bool is_killed = kill(child, SIGKILL) == 0 && waitpid(child, &status, 0) == child &&
+                     WIFSIGNALED(status) && WTERMSIG(status) == SIGKILL;
+    MUST(is_killed);
+    close(begun[0]);
+}
+
+/* By one thread over one shard; or by 2 to 4 of them, over 1 and over 4 shards in turn. */
+static void killed(unsigned kills, bool in_threads) {
     int fd = temporary(), log = temporary();
     uint64_t latest = 0;
-    unsigned at = 0;
     MUST(fcntl(log, F_SETFL, O_APPEND) == 0);
-    /* on a busy machine most children do nothing before they are killed: then there are more, of
-     * lives that are twice as long, and twice as long again */
-    for (; at < KILLS || (latest < FEW_CHANGES && at < MOST_KILLS); at++) {
-        int status;
-        pid_t child = fork();
-        MUST(child >= 0);
-        if (child == 0) change_pages(fd, log, latest, at);
-        usleep((1000 + (unsigned)rand() % 15000) << at / KILLS);
-        /* no child ended before, by a fault of its own */
-        MUST(kill(child, SIGKILL) == 0 && waitpid(child, &status, 0) == child && WIFSIGNALED(status) && WTERMSIG(status) == SIGKILL);
+    for (unsigned at = 0; at < kills; at++) {
+        kill_one(fd, log, latest, at, in_threads ? 2 + at / 2 % 3 : 1);
         MUST(ftruncate(log, size_of(log) / (off_t)sizeof(record) * (off_t)sizeof(record)) == 0);
         latest = check_order(fd, log);
     }
-    MUST(latest > 0);
-    printf("logged: %u kills, after %llu changes in the log\n", at, (unsigned long long)latest);
+    MUST(latest >= kills);
+    printf("logged: %u kills of %s, after %llu changes in the log\n", kills,
+        in_threads ? "2 to 4 threads" : "one thread", (unsigned long long)latest);
     close(log);
     close(fd);
 }
@@ -363,6 +486,7 @@ int main(void) {
     two_devices();
     asked_for_dump();
     other_handle();
-    killed();
+    killed(KILLS, false);
+    killed(KILLS_IN_THREADS, true);
     return end_as_expected();
 }

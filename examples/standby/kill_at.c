@@ -2,10 +2,16 @@
  * Ends a program that is started with it as LD_PRELOAD by kill -9, just before the call number KILL_AT of those that KILL_CALLS names, as
  * "rename fsync": of rename, unlink, fsync, ftruncate, sendfile and pwrite. renameat2 counts as rename, fdatasync as fsync, and ftruncate64 and
  * pwrite64, which SQLite calls, as what they are without the number.
+ *
+ * Where INTERRUPTED is set, every other fsync fails as one that a signal interrupts, until
+ * renameat2 is called. A standby puts DB in its place so, and SQLite opens it then, which tries no
+ * sync again.
  */
 #define _GNU_SOURCE
 #include <dlfcn.h>
+#include <errno.h>
 #include <signal.h>
+#include <stdbool.h>
 #include <stdio.h>
 #include <stdlib.h>
 #include <string.h>
@@ -20,6 +26,15 @@ static void count(const char *name) {
     if (++calls == atol(at)) kill(getpid(), SIGKILL);
 }
 
+static bool is_in_place;
+
+static bool is_interrupted(void) {
+    static bool was;
+    was = !was && !is_in_place && getenv("INTERRUPTED") != NULL;
+    if (was) errno = EINTR;
+    return was;
+}
+
 #define NEXT(name) ((__typeof__(&name))dlsym(RTLD_NEXT, #name))
 
 int rename(const char *from, const char *to) {
@@ -29,6 +44,7 @@ int rename(const char *from, const char *to) {
 
 int renameat2(int from_folder, const char *from, int to_folder, const char *to, unsigned flags) {
     count("rename");
+    is_in_place = true;
     return NEXT(renameat2)(from_folder, from, to_folder, to, flags);
 }
 
@@ -39,7 +55,7 @@ int unlink(const char *path) {
 
 int fsync(int fd) {
     count("fsync");
-    return NEXT(fsync)(fd);
+    return is_interrupted() ? -1 : NEXT(fsync)(fd);
 }
 
 int fdatasync(int fd) {

@@ -346,7 +346,7 @@ int pool_file_truncate(pool_file *file, uint64_t size) {
     return status;
 }
 
-static bool sync_file(int fd) {
+bool pool_file_sync_fd(int fd) {
     int status;
     do status = fsync(fd);
     while (status != 0 && errno == EINTR);
@@ -359,13 +359,13 @@ static bool cut_to_size(pool_file *file) {
     struct stat about;
     if (fstat(file->fd, &about) != 0) return false;
     if ((uint64_t)about.st_size == file->size) return true;
-    return ftruncate(file->fd, (off_t)file->size) == 0 && sync_file(file->fd);
+    return ftruncate(file->fd, (off_t)file->size) == 0 && pool_file_sync_fd(file->fd);
 }
 
 /* Where something is dirty the flush in warm_write_back_all comes after all writes past the pool, and is one of the same file. */
 static int write_and_sync(pool_file *file) {
     if (file->is_dirty) return warm_write_back_all(pool_file_handle(file));
-    return sync_file(file->fd) ? WARM_OK : POOL_IO;
+    return pool_file_sync_fd(file->fd) ? WARM_OK : POOL_IO;
 }
 
 int pool_file_sync(pool_file *file) {

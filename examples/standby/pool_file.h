@@ -73,6 +73,10 @@ int pool_file_truncate(pool_file *file, uint64_t size);
 /* Every dirty page is in the file, and the file is on its disk. */
 int pool_file_sync(pool_file *file);
 
+/* Syncs the file or folder behind a descriptor, again where a signal interrupts that. False where
+ * the system refuses it. */
+bool pool_file_sync_fd(int fd);
+
 /* Looks whether another process has changed the file since pool_file_leave, and drops the frames where it has. Nothing is dirty. */
 int pool_file_enter(pool_file *file);
 

@@ -226,13 +226,13 @@ static void copy_file(int source, const char *to) {
     do copied = sendfile(target, source, NULL, 1 << 30);
     while (copied > 0 || (copied < 0 && errno == EINTR));
     take_must(copied == 0 && fstat(source, &about) == 0 && fchmod(target, about.st_mode & 0777) == 0, to);
-    take_must(fsync(target) == 0 && close(target) == 0, to);
+    take_must(pool_file_sync_fd(target) && close(target) == 0, to);
 }
 
 static void sync_folder_of(const char *path) {
     char *copy = joined(path, "");
     int fd = open(dirname(copy), O_RDONLY | O_DIRECTORY | O_CLOEXEC);
-    take_must(fd >= 0 && fsync(fd) == 0 && close(fd) == 0, "the folder");
+    take_must(fd >= 0 && pool_file_sync_fd(fd) && close(fd) == 0, "the folder");
     sqlite3_free(copy);
 }
 
@@ -269,7 +269,7 @@ static taken take_database(pool_file *copy, const source *primary, const char *c
         take_must(take_pages(copy, primary->fd, &counts), primary->path);
         take_must(fstat(primary->fd, &about) == 0 && fchmod(copy->fd, about.st_mode & 0777) == 0, copy_path);
         /* What stood in the copy before this program may not be on its disk, so it is synced also where nothing differed. */
-        take_must(pool_file_leave(copy) == WARM_OK && fsync(copy->fd) == 0, copy_path);
+        take_must(pool_file_leave(copy) == WARM_OK && pool_file_sync_fd(copy->fd), copy_path);
     } else {
         copy_file(primary->fd, copy_path);
     }
