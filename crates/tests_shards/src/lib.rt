@@ -35,6 +35,8 @@ mod threads;
 #[cfg(test)]
 mod two_pins;
 #[cfg(test)]
+mod two_threads;
+#[cfg(test)]
 mod whole;
 #[cfg(test)]
 mod written_shared;
