@@ -54,7 +54,7 @@ static void test_record_after_zeros(void) {
     OK(warm_unpin(&second, slot));
     OK(warm_unpin(&first, pin(&first, 5)));
     slot = hold_page(&first, 5);
-    MUST(lent == &node_of(&first, 0)->at[slot.index].byte);
+    MUST(lent == node_of(&first, 0)->at[slot.index].bytes);
     OK(warm_unpin(&first, slot));
     close_two(&first, &second);
 }

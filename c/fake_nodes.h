@@ -1,10 +1,10 @@
 /*
  * fake_nodes.h: the functions of nodes.h in a few lines of C each, for tests, which have no proved
- * part. A fake node has frames, each with one byte in place of a page, and in place of a history
- * how many references it took in. It writes pages and asks for syncs as the proved part does in the
- * end, by devices.h and sync_once.h. Where it reads a page, which it does for a handle that is
- * alone, it takes the byte that the file keeps (fake_system.h), or that the device's own call
- * reads. Each call looks whether another call is in the node.
+ * part. A fake node has frames, each with one byte in place of a page, or with more where a test
+ * says so, and in place of a history how many references it took in. It writes pages and asks for
+ * syncs as the proved part does in the end, by devices.h and sync_once.h. Where it reads a page,
+ * which it does for a handle that is alone, it takes the byte that the file keeps (fake_system.h),
+ * or that the device's own call reads. Each call looks whether another call is in the node.
  */
 #ifndef FAKE_NODES_H
 #define FAKE_NODES_H
@@ -20,16 +20,21 @@
 
 enum { FAKE_DEVICES = 4, FAKE_FRAMES = 32, FAKE_PAGES = 512, FAKE_EMPTY = 23, FAKE_FULL = 44 };
 
+/* The most that a page has. */
+enum { FAKE_BYTES = 64 };
+
 typedef struct fake_frame {
     bool is_in, is_dirty;
     node_page page;
     uint64_t generation;
     unsigned pins;
-    uint8_t byte;
+    uint8_t bytes[FAKE_BYTES];
 } fake_frame;
 
 typedef struct fake {
     atomic_int inside;                         /* how many calls are in it */
+    uint64_t calls;                            /* how many were */
+    size_t page_size;
     size_t frames, device_count, known, named; /* named: the page that is said to be loaded next */
     node_device devices[FAKE_DEVICES];
     bool waits[FAKE_DEVICES], has_failed[FAKE_DEVICES];
@@ -42,6 +47,7 @@ typedef struct fake {
 static fake *fake_in(node *of) {
     fake *its = of->at;
     MUST(of->is_open && atomic_fetch_add_explicit(&its->inside, 1, memory_order_relaxed) == 0);
+    its->calls++;
     return its;
 }
 
@@ -67,6 +73,7 @@ int node_open(node *of, uint16_t replica, size_t frames, size_t page_size,
     if (made == NULL) return WARM_MEMORY;
     memset(made, 0, sizeof(fake));
     made->frames = frames;
+    made->page_size = page_size;
     made->device_count = device_count;
     memcpy(made->devices, devices, device_count * sizeof(node_device));
     *of = (node){.is_open = true, .at = made};
@@ -92,14 +99,17 @@ void node_close(node *of) {
     *of = (node){0};
 }
 
+/* The device is to be flushed afterwards, also where the write fails. */
 static bool fake_write(fake *its, fake_frame *frame) {
     node_page page = frame->page;
-    if (device_write(its->devices[page.dev].number, &frame->byte, 1, (off_t)page.no) != 1) {
+    off_t at = (off_t)(page.no * its->page_size);
+    int32_t number = its->devices[page.dev].number;
+    its->waits[page.dev] = true;
+    if (device_write(number, frame->bytes, its->page_size, at) != (ssize_t)its->page_size) {
         its->failed = (node_failure){
             .no = page.no, .dev = page.dev, .what = WARM_FAILED_WRITE, .error = errno};
         return false;
     }
-    its->waits[page.dev] = true;
     its->writes++;
     frame->is_dirty = false;
     return true;
@@ -126,9 +136,11 @@ static int fake_unread(fake *its, node_page page) {
 /* How often a node has read a page, or tried to. */
 static int read_by_nodes;
 
-/* Whether the page can be read: what a file keeps, or what a device's own call reads. */
+/* Whether the page, of one byte, can be read: what a file keeps, or what a device's own call
+ * reads. */
 static bool fake_read(const fake *its, node_page page, uint8_t *byte) {
     int32_t number = its->devices[page.dev].number;
+    MUST(its->page_size == 1);
     read_by_nodes++;
     if (device_of(number).ops.read != NULL)
         return device_read(number, byte, 1, (off_t)page.no) == 1;
@@ -136,19 +148,25 @@ static bool fake_read(const fake *its, node_page page, uint8_t *byte) {
     return (off_t)page.no < unreadable;
 }
 
-/* Where no byte is given, the page is read. */
+/* Whether each page in a frame has as many pins as it can have: where a test says so. */
+static bool pins_are_full;
+
+/* Where no bytes are given, the page is read. */
 static int fake_pin(fake *its, node_page page, const uint8_t *given, node_slot *slot) {
     if (page.dev >= its->device_count) return WARM_NO_DEVICE;
     if (page.no >= FAKE_PAGES) return WARM_NO_PAGE;
     fake_frame *frame = fake_frame_for(its, page);
+    MUST(its->page_size <= FAKE_BYTES);
     if (frame == NULL) return WARM_ALL_PINNED;
-    if (!frame->is_in || frame->page.no != page.no || frame->page.dev != page.dev) {
+    bool is_there =
+        frame->is_in && frame->page.no == page.no && frame->page.dev == page.dev;
+    if (is_there && pins_are_full) return WARM_PINS_FULL;
+    if (!is_there) {
         uint8_t byte = 0;
-        if (given != NULL) byte = *given;
-        else if (!fake_read(its, page, &byte)) return fake_unread(its, page);
+        if (given == NULL && !fake_read(its, page, &byte)) return fake_unread(its, page);
         if (frame->is_in && frame->is_dirty && !fake_write(its, frame)) return WARM_EVICT_FAULT;
-        *frame = (fake_frame){
-            .is_in = true, .page = page, .generation = frame->generation + 1, .byte = byte};
+        *frame = (fake_frame){.is_in = true, .page = page, .generation = frame->generation + 1};
+        memcpy(frame->bytes, given != NULL ? given : &byte, its->page_size);
     }
     frame->pins++;
     *slot = (node_slot){.generation = frame->generation, .index = (uint32_t)(frame - its->at)};
@@ -161,18 +179,15 @@ static fake_frame *fake_pinned(fake *its, node_slot slot) {
     return frame->pins > 0 && frame->generation == slot.generation ? frame : NULL;
 }
 
-/* Whether each page in a frame has as many pins as it can have: where a test says so. */
-static bool pins_are_full;
-
 int node_pin(node *of, node_page page, node_slot *slot) {
     fake *its = fake_in(of);
-    return fake_out(of, pins_are_full ? WARM_PINS_FULL : fake_pin(its, page, NULL, slot));
+    return fake_out(of, fake_pin(its, page, NULL, slot));
 }
 
 int node_pin_filled(
     node *of, node_page page, const uint8_t *bytes, size_t length, node_slot *slot) {
     fake *its = fake_in(of);
-    int status = length != 1 ? WARM_BAD_PAGE_SIZE : fake_pin(its, page, bytes, slot);
+    int status = length != its->page_size ? WARM_BAD_PAGE_SIZE : fake_pin(its, page, bytes, slot);
     if (status == WARM_OK && its->named != 0 && page.no == its->named) its->known--;
     its->named = 0;
     return fake_out(of, status);
@@ -180,23 +195,22 @@ int node_pin_filled(
 
 int node_pin_zeroed(node *of, node_page page, node_slot *slot) {
     fake *its = fake_in(of);
-    if (pins_are_full) return fake_out(of, WARM_PINS_FULL);
-    int status = fake_pin(its, page, (const uint8_t[1]){0}, slot);
+    int status = fake_pin(its, page, (const uint8_t[FAKE_BYTES]){0}, slot);
     if (status != WARM_OK) return fake_out(of, status);
-    its->at[slot->index].byte = 0;
+    memset(its->at[slot->index].bytes, 0, its->page_size);
     its->at[slot->index].is_dirty = true;
     return fake_out(of, WARM_OK);
 }
 
 int node_lend(node *of, node_slot slot, const uint8_t **bytes) {
     fake_frame *frame = fake_pinned(fake_in(of), slot);
-    if (frame != NULL) *bytes = &frame->byte;
+    if (frame != NULL) *bytes = frame->bytes;
     return fake_out(of, frame != NULL ? WARM_OK : WARM_STALE_SLOT);
 }
 
 int node_lend_mut(node *of, node_slot slot, uint8_t **bytes) {
     fake_frame *frame = fake_pinned(fake_in(of), slot);
-    if (frame != NULL) *bytes = &frame->byte;
+    if (frame != NULL) *bytes = frame->bytes;
     if (frame != NULL) frame->is_dirty = true;
     return fake_out(of, frame != NULL ? WARM_OK : WARM_STALE_SLOT);
 }
@@ -212,18 +226,33 @@ int node_unpin(node *of, node_slot slot) {
     return fake_out(of, frame != NULL ? WARM_OK : WARM_STALE_SLOT);
 }
 
+/* Whether these bytes are in the page of a slot, or why not. */
+static int fake_reach(const fake *its, const fake_frame *frame, size_t at, size_t length) {
+    size_t size = its->page_size;
+    if (frame == NULL) return WARM_STALE_SLOT;
+    return at > size || length > size - at ? WARM_OUT_OF_PAGE : WARM_OK;
+}
+
 int node_read(node *of, node_slot slot, size_t at, uint8_t *into, size_t length) {
-    fake_frame *frame = fake_pinned(fake_in(of), slot);
-    int status = frame == NULL ? WARM_STALE_SLOT : at + length > 1 ? WARM_OUT_OF_PAGE : WARM_OK;
-    if (status == WARM_OK && length == 1) *into = frame->byte;
+    fake *its = fake_in(of);
+    fake_frame *frame = fake_pinned(its, slot);
+    int status = fake_reach(its, frame, at, length);
+    if (status == WARM_OK) memcpy(into, frame->bytes + at, length);
     return fake_out(of, status);
 }
 
+/* What a test does while a node has written half of what a call writes: other threads may do
+ * that. */
+static void (*at_half)(void);
+
 int node_write(node *of, node_slot slot, size_t at, const uint8_t *bytes, size_t length) {
-    fake_frame *frame = fake_pinned(fake_in(of), slot);
-    int status = frame == NULL ? WARM_STALE_SLOT : at + length > 1 ? WARM_OUT_OF_PAGE : WARM_OK;
+    fake *its = fake_in(of);
+    fake_frame *frame = fake_pinned(its, slot);
+    int status = fake_reach(its, frame, at, length);
     if (status == WARM_OK) {
-        frame->byte = *bytes;
+        memcpy(frame->bytes + at, bytes, length / 2);
+        if (at_half != NULL) at_half();
+        memcpy(frame->bytes + at + length / 2, bytes + length / 2, length - length / 2);
         frame->is_dirty = true;
     }
     return fake_out(of, status);

@@ -57,7 +57,7 @@ static void test_staying(void) {
     MUST(victim(&first) == 0);
     slot = hold_page(&second, 0);
     MUST(slot.index == 0 && slot.generation == 1 && slot.shard == 0 &&
-         lent == &node_of(&first, 0)->at[0].byte);
+         lent == node_of(&first, 0)->at[0].bytes);
     MUST(victim(&first) == 1 && victim(&second) == 1);
     no_pins(&first);
     OK(warm_unpin(&first, pin(&first, 2))); /* page 1 leaves, not page 0 */
@@ -234,7 +234,7 @@ static void test_counting(void) {
     MUST(((opened *)second.at)->holds == its && blocks == there + 3);
     warm_slot slot = hold_page(&second, 0);
     uint8_t byte;
-    OK(warm_read(&second, slot, 0, &byte, 1));
+    OK(warm_mark_dirty(&second, slot));
     OK(warm_read(&first, slot, 0, &byte, 1));
     /* also of what is said to leave */
     MUST(victim(&first) == 1 && ((opened *)first.at)->shards[0].table.pins == 4);

@@ -357,19 +357,24 @@ static void test_steps(void) {
     close_all();
 }
 
-/* A step that is refused says nothing of a page. */
+/* A step that is refused says nothing of a page, nor whether there is one. */
+static void refused_step(int status) {
+    for (int found = 0; found < 2; found++) {
+        callers[0].found = found;
+        begin(0, STEPS, page_at(9));
+        MUST(end(0) == status && callers[0].found == found && callers[0].page.no == 9);
+    }
+}
+
 static void test_refused_steps(void) {
     const warm_reference seen = {.replica = 1};
     open_all(1, 1);
     OK(warm_absorb(&first, &seen, 1));
     unreadable = 0;
-    callers[0].found = false;
-    begin(0, STEPS, page_at(9));
-    MUST(end(0) == WARM_READ_FAULT && !callers[0].found && callers[0].page.no == 9);
+    refused_step(WARM_READ_FAULT);
     unreadable = INT64_MAX;
     warm_slot slot = pin(&first, 7);
-    begin(0, STEPS, page_at(9));
-    MUST(end(0) == WARM_ALL_PINNED && !callers[0].found && callers[0].page.no == 9);
+    refused_step(WARM_ALL_PINNED);
     OK(warm_unpin(&first, slot));
     begin(0, STEPS, page_at(9));
     MUST(end(0) == WARM_OK && callers[0].found && callers[0].page.no == 1 && is_in(&first, 1));

@@ -1,8 +1,9 @@
 /*
- * shards.c: the calls on one page of include/warm.h. A pin of a page that has a record and its
- * unpin touch what is the handle's alone (holds.h). Each other call finds the shard, enters it,
- * makes a call of the proved part on the shard's node (nodes.h), and leaves it. Nothing here is
- * proved; c/check tests it, and checks/holds.
+ * shards.c: the calls on one page of include/warm.h. A pin of a page that has a record, its unpin,
+ * and warm_bytes meanwhile touch what is the handle's alone (holds.h). Each other call finds the
+ * shard, enters it, makes a call of the proved part on the shard's node (nodes.h), and leaves it;
+ * but warm_read of a page that the handle holds asks no node. Nothing here is proved; c/check tests
+ * it, and checks/holds.
  */
 #define _POSIX_C_SOURCE 200809L /* pthread_mutex_t */
 #include "shards.h"
@@ -63,17 +64,35 @@ static inline bool pin_by_hold(
     return true;
 }
 
-/* Takes back a pin by a hold, where the slot's page has one. */
-static inline bool unpin_by_hold(opened *its, warm_slot slot) {
+/* Finds the hold of the slot's page; false where the handle has none. */
+static inline bool find_hold(const opened *its, warm_slot slot, unsigned *found) {
     for (unsigned left = its->used; left != 0; left &= left - 1) {
         unsigned at = (unsigned)__builtin_ctz(left);
-        own_hold *it = &its->own[at];
+        const own_hold *it = &its->own[at];
         if (it->generation != slot.generation || it->place != place_of_slot(&slot)) continue;
-        if (--it->pins > 0) return true;
-        give_up_hold(its, at);
+        *found = at;
         return true;
     }
     return false;
+}
+
+/* Takes back a pin by a hold, where the slot's page has one. */
+static inline bool unpin_by_hold(opened *its, warm_slot slot) {
+    unsigned at;
+    if (!find_hold(its, slot, &at)) return false;
+    if (--its->own[at].pins == 0) give_up_hold(its, at);
+    return true;
+}
+
+/* Where the bytes of the slot's page lie, if the handle holds it, else NULL. What a record says of
+ * a page does not change while that is held. */
+static inline const uint8_t *held_bytes(const opened *its, warm_slot slot) {
+    unsigned at;
+    if (!find_hold(its, slot, &at)) return NULL;
+    uint64_t word = atomic_load_explicit(&its->holds->words[at], memory_order_relaxed);
+    const table *of = &its->shards[word >> SHARD_AT].table;
+    const record *its_record = &of->records[word >> RECORD_AT & RECORD_MASK];
+    return atomic_load_explicit(&its_record->bytes, memory_order_relaxed);
 }
 
 /* A page that is to be in a frame, and a pin of it. Its bytes are read by the node, or zeros, or in
@@ -511,7 +530,24 @@ static int leave_slot(const visit *made, int status) {
     return status;
 }
 
+/* Refuses what the node would. The shard is entered, so that a warm_write by another handle is one
+ * step for who reads. */
+static int read_held(
+    opened *its, warm_slot slot, const uint8_t *bytes, size_t at, void *into, size_t length) {
+    size_t size = its->of->page_size;
+    if (at > size || length > size - at) return WARM_OUT_OF_PAGE;
+    shard *in = &its->shards[slot.shard];
+    bool is_locked = enter(its, in);
+    memcpy(into, bytes + at, length);
+    leave(in, is_locked);
+    return WARM_OK;
+}
+
 int warm_read(warm *handle, warm_slot slot, size_t at, void *into, size_t length) {
+    opened *its = handle->at;
+    if (its == NULL) return WARM_CLOSED;
+    const uint8_t *bytes = held_bytes(its, slot);
+    if (bytes != NULL) return read_held(its, slot, bytes, at, into, length);
     visit made;
     int status = enter_slot(handle, slot, &made);
     if (status != WARM_OK) return status;
@@ -526,6 +562,13 @@ int warm_write(warm *handle, warm_slot slot, size_t at, const void *bytes, size_
 }
 
 int warm_bytes(warm *handle, warm_slot slot, const uint8_t **bytes) {
+    opened *its = handle->at;
+    if (its == NULL) return WARM_CLOSED;
+    const uint8_t *lent = held_bytes(its, slot);
+    if (lent != NULL) {
+        *bytes = lent;
+        return WARM_OK;
+    }
     visit made;
     int status = enter_slot(handle, slot, &made);
     if (status != WARM_OK) return status;

@@ -5,8 +5,8 @@
  * A replica has one node of the proved part for each shard, and a lock for each. Whoever is in a
  * shard, between enter and leave, has its node to itself: by its lock, or since no other handle is
  * open. No call is in two shards at once but those that are in all, which enter them in their
- * order. A pin of a page that has a record, and its unpin, are in no shard (holds.h); nor is,
- * meanwhile, who reads a page (reads.h) or writes one (writes.h).
+ * order. A pin of a page that has a record, its unpin, and warm_bytes while it is held are in no
+ * shard (holds.h); nor is, meanwhile, who reads a page (reads.h) or writes one (writes.h).
  *
  * Who takes several locks takes them in this order:
  *  1. a shard's, or those of all shards;

@@ -129,7 +129,7 @@ static void call_pins(warm *handle, warm_page page, bool is_shared) {
     TAKES(0, warm_pin(handle, page, &slot));
     TAKES(1, warm_write(handle, slot, 0, &byte, 1));
     TAKES(1, warm_read(handle, slot, 0, &byte, 1));
-    TAKES(1, warm_bytes(handle, slot, &lent));
+    TAKES(0, warm_bytes(handle, slot, &lent));
     TAKES(1, warm_bytes_mut(handle, slot, &bytes));
     TAKES(1, warm_mark_dirty(handle, slot));
     TAKES(0, warm_unpin(handle, slot));

@@ -526,6 +526,26 @@ static void test_leaving_two(void) {
     }
 }
 
+/* So is one that is written, in whichever shard it is. */
+static void test_leaving_shards(void) {
+    for (uint64_t no = 0; no < 4; no++) {
+        for (int call = FORGETS; call <= REPLACES; call++) {
+            open_all(4, 8);
+            write_to(&first, page_at(no), 'd');
+            stop_writes_of(bit(no));
+            begin(0, WRITES_ONE, page_at(no));
+            until_written(bit(no));
+            begin(1, call, page_at(0));
+            until_waiting(1);
+            not_over(1);
+            end_writes(bit(no));
+            MUST(end(0) == WARM_OK && end(1) == WARM_OK && in_files[10][no] == 'd');
+            MUST(!is_in(&first, no) && written_locked == 0);
+            close_all();
+        }
+    }
+}
+
 /* One that a user has pinned, too, is pinned. */
 static void test_leaving_meanwhile(void) {
     leaving_meanwhile(FORGETS);
@@ -752,6 +772,7 @@ int main(void) {
     test_passing_over();
     test_leaving_meanwhile();
     test_leaving_two();
+    test_leaving_shards();
     test_no_other_frame();
     test_no_other_frame_then();
     test_first_frame();

@@ -20,12 +20,12 @@
    its shard, but not while it reads a page, and seldom while it writes one. A call on the whole
    replica locks one shard after another; warm_forget_pages and warm_replace lock all at once, and
    wait for reads and writes of their pages; warm_replace locks all while it writes and flushes. A
-   pin of a page pinned twice since it was loaded, and its unpin, usually take no lock, for 8 pages
-   of a handle at a time. A call waits while another call reads its page, and before it writes a
-   page, while another writes it. If that read or write fails, the call makes its own. If another
-   call's second write is under way by then, the call has its result. If all pages that could leave
-   for its page are being written, a pin waits for one of these writes or an unpin. See
-   warm_limit_waits.
+   pin of a page pinned twice since it was loaded, its warm_bytes and its unpin usually take no
+   lock, for 8 pages of a handle at a time. A call waits while another call reads its page, and
+   before it writes a page, while another writes it. If that read or write fails, the call makes its
+   own. If another call's second write is under way by then, the call has its result. If all pages
+   that could leave for its page are being written, a pin waits for one of these writes or an unpin.
+   See warm_limit_waits.
    The calls on a shard have one order; a call on several shards is not one step.
 
    You may pass any slot, page, number, length, message or descriptor: the call is refused, or does
@@ -143,7 +143,7 @@ typedef struct warm_reference {
 
 /* Where a pinned page is. A replica opened later may accept it. */
 typedef struct warm_slot {
-    uint64_t generation; /* of the frame: how many pages it had before */
+    uint64_t generation; /* of the frame: how many pages it had, with this one */
     uint32_t index;      /* of the frame in its shard, from 0 */
     uint16_t shard;
     uint16_t hit;        /* 1: this pin found the page in a frame; else 0 */
@@ -225,7 +225,7 @@ int warm_abandon(warm *handle);
 
 /* Sets how long later calls of this handle wait for reads, writes and before_write of other calls:
    each this many milliseconds from its first wait on; UINT64_MAX, as at first: without a limit.
-   After that pins, warm_prefetch, warm_step, warm_write, warm_bytes_mut and warm_mark_dirty are
+   After that, pins, warm_prefetch, warm_step, warm_write, warm_bytes_mut and warm_mark_dirty are
    refused with WARM_BUSY: call again. A wait for a locked shard has no limit, nor have other calls.
    Write-backs wait for two writes of each page at most, and for syncs; warm_forget_pages and
    warm_replace for what was under way at the call. */
@@ -272,7 +272,8 @@ int warm_write(warm *handle, warm_slot slot, size_t at, const void *bytes, size_
 /* Writes a pointer to the page_size bytes of the slot's page. It holds while any handle has the
    page pinned.
    Refused: WARM_STALE_SLOT.
-   Caller: reads them only then, while no other thread writes to the page. */
+   Caller: reads them only then, while no other thread writes to the page, which a latch of the
+   caller sees to: this call orders no memory. */
 int warm_bytes(warm *handle, warm_slot slot, const uint8_t **bytes);
 
 /* The same for writing; the page is dirty now.

@@ -1,5 +1,6 @@
 #!/usr/bin/env python3
-"""Measures a hit (pin, read eight bytes, unpin) from C against the same from Rattle, and the memory of histories from C.
+"""Measures a hit (pin, read eight bytes, unpin) from C, by warm_read and of bytes that warm_pin_bytes lends, against the same from Rattle, and the
+memory of histories from C.
 
 usage: measure.py LIBRARY [HITS]      LIBRARY is the folder that scripts/c-library made; HITS of a run, 5,000,000 by default
 
@@ -40,12 +41,14 @@ def one_run(command: list[str | Path]) -> tuple[str, int]:
     return checksum, int(spent.split()[0])
 
 
-def measure(commands: dict[str, list[str | Path]], frames: int, hits: int) -> None:
+def measure(hit: Path, frames: int, hits: int) -> None:
+    words = [str(frames), str(hits)]
+    commands = {"ours": [hit, *words], "ours, bytes lent": [hit, *words, "lent"], "Rattle": [program("bench_threads"), "hits", *words]}
     took = Runs()
     checksums = set()
     for _ in range(ROUNDS):
         for name in random.sample(list(commands), len(commands)):
-            checksum, nanoseconds = one_run([*commands[name], str(frames), str(hits)])
+            checksum, nanoseconds = one_run(commands[name])
             checksums.add(checksum)
             took.add(f"a hit, {frames:,} frames", name, "ns", nanoseconds / hits)
     assert len(checksums) == 1, checksums
@@ -68,9 +71,9 @@ def main() -> None:
     library = Path(sys.argv[1]).resolve()
     with tempfile.TemporaryDirectory() as name:
         folder = Path(name)
-        commands = {"ours": [built("hits", library, folder)], "Rattle": [program("bench_threads"), "hits"]}
+        hit = built("hits", library, folder)
         for frames in POOLS:
-            measure(commands, frames, hits)
+            measure(hit, frames, hits)
         measure_memory(built("memory", library, folder))
 
 

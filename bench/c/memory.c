@@ -40,9 +40,11 @@ static void absorb(warm *history, uint64_t pages, bool scattered) {
 }
 
 int main(int count, char **words) {
-    must(count == 3, "usage: memory PAGES ascending|scattered");
+    static const char usage[] = "usage: memory PAGES ascending|scattered";
+    must(count == 3, usage);
     uint64_t pages = strtoull(words[1], NULL, 10);
     bool scattered = strcmp(words[2], "scattered") == 0;
+    must(pages > 0 && (scattered || strcmp(words[2], "ascending") == 0), usage);
     warm history = {0};
     const warm_options options = {.size = sizeof options, .replica = 1};
     must(warm_open(&history, &options) == WARM_OK, "warm_open");

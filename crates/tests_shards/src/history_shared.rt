@@ -7,7 +7,9 @@ use std::alloc::Global;
 use std::process::Abort;
 use std::sync::Wait;
 use std::thread::{Threads, join};
-use test_kit::{SeenAt, are_equal, history_of, once, page, page_on, replica, twice};
+use test_kit::{
+    SeenAt, are_equal, history_of, history_of_pages, once, page, page_on, replica, twice,
+};
 use warm_concurrent::{Attached, SharedShards};
 use warm_devices::MemDevice;
 use warm_dump::{read_dump, write_dump};
@@ -209,4 +211,88 @@ fn the_dump_of_a_copy_is_that_of_one_history(rt: HostRuntime) {
     let mut reader = text.as_slice();
     let read = read_dump(alloc, &mut reader).expect(&rt, "a dump");
     assert!(rt; are_equal(&read, &copy));
+}
+
+// ---- a history that is taken in
+
+#[test]
+fn each_shard_takes_in_its_part_of_a_history(rt: HostRuntime) {
+    let alloc = rt.alloc();
+    let (shared, mut first) = shared_of(&rt, alloc, 1, 4);
+    let mut all = of_all(&rt, alloc);
+    assert!(rt; shared.join(&rt, alloc, &mut first, &all).is_ok());
+    assert!(rt; are_equal(&copied(&rt, alloc, &shared, &mut first), &all));
+    // The later horizon is that of all shards.
+    all.raise(12);
+    assert!(rt; shared.join(&rt, alloc, &mut first, &all).is_ok());
+    assert!(rt; are_equal(&copied(&rt, alloc, &shared, &mut first), &all));
+    let none = History::new(alloc);
+    assert!(rt; shared.join(&rt, alloc, &mut first, &none).is_ok());
+    assert!(rt; are_equal(&copied(&rt, alloc, &shared, &mut first), &all));
+}
+
+// A shard takes in more entries than a message has.
+#[test]
+fn a_long_history_is_taken_in(rt: HostRuntime) {
+    let alloc = rt.alloc();
+    let (shared, mut first) = shared_of(&rt, alloc, 1, 2);
+    let long = history_of_pages(alloc, 0, 2400, 5).expect(&rt, "memory for a history");
+    assert!(rt; shared.join(&rt, alloc, &mut first, &long).is_ok());
+    let copy = copied(&rt, alloc, &shared, &mut first);
+    assert!(rt; copy.len() == 2400 && are_equal(&copy, &long));
+}
+
+// A thread joins the history of its batch.
+fn is_joined<R: Wait + Abort>(
+    rt: &R,
+    alloc: Global,
+    shared: &Shared,
+    thread: Thread,
+    number: u64,
+) -> (Thread, bool)
+    requires { AreOf shared.now thread.passes }
+    ensures { AreOf shared.now result.0.passes }
+{
+    let mut thread = thread;
+    let own = history_of(alloc, given_by(number)).expect(rt, "memory for a history");
+    let joined = shared.join(rt, alloc, &mut thread, &own);
+    (thread, joined.is_ok())
+}
+
+// Two threads join the histories of their batches at once.
+fn two_are_joined<R: Threads + Wait + Abort + Sync>(
+    rt: &R,
+    alloc: Global,
+    shared: &Shared,
+    thread: Thread,
+) -> (Thread, bool)
+    requires { AreOf shared.now thread.passes }
+    ensures { AreOf shared.now result.0.passes }
+{
+    let mut thread = thread;
+    let other = more(rt, alloc, shared, &mut thread);
+    let (one, two) = join(
+        rt,
+        move || -> (Thread, bool)
+            requires { AreOf shared.now thread.passes }
+            ensures { AreOf shared.entry.now result.0.passes }
+        { is_joined(rt, alloc, shared, thread, 0) },
+        move || -> (Thread, bool)
+            requires { AreOf shared.now other.passes }
+            ensures { AreOf shared.entry.now result.0.passes }
+        { is_joined(rt, alloc, shared, other, 1) },
+    );
+    ended(rt, shared, one, two)
+}
+
+#[test]
+fn two_threads_join_a_history_each(rt: HostRuntime) {
+    let alloc = rt.alloc();
+    let (shared, first) = shared_of(&rt, alloc, 1, 4);
+    let (mut first, both) = two_are_joined(&rt, alloc, &shared, first);
+    assert!(rt; both);
+    let mut wanted = history_of(alloc, ONE).expect(&rt, "memory for a history");
+    let other = history_of(alloc, TWO).expect(&rt, "memory for a history");
+    assert!(rt; wanted.join(&other).is_ok());
+    assert!(rt; are_equal(&copied(&rt, alloc, &shared, &mut first), &wanted));
 }

@@ -11,6 +11,8 @@ mod engine;
 #[cfg(test)]
 mod engine_shared;
 #[cfg(test)]
+mod filled_shared;
+#[cfg(test)]
 mod forming;
 #[cfg(test)]
 mod gossip_shared;
@@ -32,3 +34,5 @@ mod shared;
 mod threads;
 #[cfg(test)]
 mod whole;
+#[cfg(test)]
+mod written_shared;

@@ -12,8 +12,8 @@ use warm_devices::{MemDevice, PageDevice};
 use warm_gossip::NodeFault;
 use warm_pool::PoolFault;
 
-// A refusal of a pool.
-const fn of_pool(fault: PoolFault) -> SharedFault {
+/// A refusal of a pool.
+pub(crate) const fn of_pool(fault: PoolFault) -> SharedFault {
     SharedFault::Node(NodeFault::Pool(fault))
 }
 
@@ -44,8 +44,8 @@ fn put(bytes: &mut [u8], byte: u8) {
     }
 }
 
-// Puts a byte at the begin of a page, which is then dirty.
-fn is_put<D: PageDevice + Send, R: Wait>(
+/// Puts a byte at the begin of a page, which is then dirty.
+pub(crate) fn is_put<D: PageDevice + Send, R: Wait>(
     rt: &R,
     shared: &SharedShards<D>,
     thread: &mut Attached<D>,
@@ -67,8 +67,8 @@ fn first_of(bytes: &[u8]) -> u8 {
     }
 }
 
-// The first byte of a page.
-fn seen_in<D: PageDevice + Send, R: Wait>(
+/// The first byte of a page.
+pub(crate) fn seen_in<D: PageDevice + Send, R: Wait>(
     rt: &R,
     shared: &SharedShards<D>,
     thread: &mut Attached<D>,

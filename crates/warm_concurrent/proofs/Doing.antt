@@ -3,9 +3,9 @@ use Rattle.std.proofs.Common.{◌≡◌, ℕ, refl}
 use Rattle.warm_gossip.specs.declared.fault.NodeFault.{NodeFault}
 use Rattle.warm_gossip.specs.State.{NodeState}
 use Rattle.warm_concurrent.specs.declared.call.ShardCall.{ShardCall}
-use Rattle.warm_concurrent.specs.declared.call.ShardCall.TheVariants.{Absorb, ForgetPages, TakeIn, Write, WriteBack, WritePages}
+use Rattle.warm_concurrent.specs.declared.call.ShardCall.TheVariants.{Absorb, FlushDevice, ForgetPages, TakeIn, Write, WriteBack, WritePages}
 use Rattle.warm_concurrent.specs.declared.call.ShardReply.{ShardReply}
-use Rattle.warm_concurrent.specs.declared.call.ShardReply.TheVariants.{Changed, Copied, Dirty, Done, Foreign, Looked, Portion, Refused}
+use Rattle.warm_concurrent.specs.declared.call.ShardReply.TheVariants.{Changed, Copied, Dirty, Done, Foreign, Looked, Portion, Refused, WasDirty}
 use Rattle.warm_concurrent.specs.Clauses.{IsDoneCall, MayAnswer}
 use Rattle.warm_concurrent.specs.ShardSteps.{IsOwn, NodeGoes, asked_of}
 
@@ -17,6 +17,7 @@ module _ (count i : ℕ) where
   done_own (Write slot at bytes) done = tt
   done_own WritePages done = tt
   done_own WriteBack done = tt
+  done_own (FlushDevice dev) done = tt
   done_own (ForgetPages dev from) done = tt
   done_own c done = absurd done
 
@@ -27,6 +28,7 @@ module _ (count i : ℕ) where
   done_goes x y c Done done goes not_done not_refused = not_done refl
   done_goes x y c (Refused why) done goes not_done not_refused = not_refused why refl
   done_goes x y (Absorb batch) (Dirty left) done goes not_done not_refused = goes
+  done_goes x y (Absorb batch) (WasDirty was_dirty) done goes not_done not_refused = goes
   done_goes x y (Absorb batch) (Portion message more) done goes not_done not_refused = goes
   done_goes x y (Absorb batch) (Copied copy) done goes not_done not_refused = goes
   done_goes x y (Absorb batch) (Looked slot bytes) done goes not_done not_refused = goes
@@ -34,6 +36,7 @@ module _ (count i : ℕ) where
   done_goes x y (Absorb batch) Foreign done goes not_done not_refused = goes
   done_goes x y (Absorb batch) r done goes not_done not_refused = goes.0
   done_goes x y (Write slot at bytes) (Dirty left) done goes not_done not_refused = goes
+  done_goes x y (Write slot at bytes) (WasDirty was_dirty) done goes not_done not_refused = goes
   done_goes x y (Write slot at bytes) (Portion message more) done goes not_done not_refused = goes
   done_goes x y (Write slot at bytes) (Copied copy) done goes not_done not_refused = goes
   done_goes x y (Write slot at bytes) (Looked there seen) done goes not_done not_refused = goes
@@ -43,6 +46,7 @@ module _ (count i : ℕ) where
   done_goes x y (TakeIn horizon entries) r done goes not_done not_refused = goes
   done_goes x y WritePages r done goes not_done not_refused = goes
   done_goes x y WriteBack r done goes not_done not_refused = goes
+  done_goes x y (FlushDevice dev) r done goes not_done not_refused = goes
   done_goes x y (ForgetPages dev from) r done goes not_done not_refused = goes
   done_goes x y c r done goes not_done not_refused = absurd done
 

@@ -10,7 +10,7 @@ use Rattle.warm_gossip.specs.State.{NodeState}
 use Rattle.warm_shards.specs.Shards.{held, no_shard, shard_at, whole}
 use Rattle.warm_shards.proofs.Taking.{last_two}
 use Rattle.warm_concurrent.specs.declared.call.ShardCall.{ShardCall}
-use Rattle.warm_concurrent.specs.declared.call.ShardCall.TheVariants.{Absorb, Answer, Change, CopyHistory, ForgetPages, Look, Offer, Pin, PinZeroed, Raise, Read, Retire, Send, SendSince, TakeIn, Unpin, Victim, WarmList, WarmStep, Write, WriteBack, WritePages, WriteSome}
+use Rattle.warm_concurrent.specs.declared.call.ShardCall.TheVariants.{Absorb, Answer, Change, CopyHistory, FlushDevice, ForgetPages, Look, Offer, Pin, PinFilled, PinZeroed, Raise, Read, Retire, Send, SendSince, TakeIn, Unpin, Victim, WarmList, WarmNext, WarmStep, Write, WriteBack, WritePage, WritePages, WriteSome}
 use Rattle.warm_concurrent.specs.declared.call.ShardReply.{ShardReply}
 use Rattle.warm_concurrent.specs.declared.call.ShardReply.TheVariants.{Done, Foreign, Kept}
 use Rattle.warm_concurrent.specs.Attached.{Known, ShardPass, ShardTurn, known_of, shard_turn}
@@ -40,6 +40,8 @@ call_gave S by (Pin page) Foreign = sym (union_none S)
 call_gave S by (Pin page) r = sym (union_none S)
 call_gave S by (PinZeroed page) Foreign = sym (union_none S)
 call_gave S by (PinZeroed page) r = sym (union_none S)
+call_gave S by (PinFilled page bytes) Foreign = sym (union_none S)
+call_gave S by (PinFilled page bytes) r = sym (union_none S)
 call_gave S by (Unpin slot) Foreign = sym (union_none S)
 call_gave S by (Unpin slot) r = sym (union_none S)
 call_gave S by (Read slot at len) Foreign = sym (union_none S)
@@ -50,6 +52,8 @@ call_gave S by Victim Foreign = sym (union_none S)
 call_gave S by Victim r = sym (union_none S)
 call_gave S by WarmStep Foreign = sym (union_none S)
 call_gave S by WarmStep r = sym (union_none S)
+call_gave S by WarmNext Foreign = sym (union_none S)
+call_gave S by WarmNext r = sym (union_none S)
 call_gave S by (WarmList n) Foreign = sym (union_none S)
 call_gave S by (WarmList n) r = sym (union_none S)
 call_gave S by Offer Foreign = sym (union_none S)
@@ -64,6 +68,10 @@ call_gave S by WritePages Foreign = sym (union_none S)
 call_gave S by WritePages r = sym (union_none S)
 call_gave S by (WriteSome limit) Foreign = sym (union_none S)
 call_gave S by (WriteSome limit) r = sym (union_none S)
+call_gave S by (WritePage page) Foreign = sym (union_none S)
+call_gave S by (WritePage page) r = sym (union_none S)
+call_gave S by (FlushDevice dev) Foreign = sym (union_none S)
+call_gave S by (FlushDevice dev) r = sym (union_none S)
 call_gave S by WriteBack Foreign = sym (union_none S)
 call_gave S by WriteBack r = sym (union_none S)
 call_gave S by (ForgetPages dev from) Foreign = sym (union_none S)

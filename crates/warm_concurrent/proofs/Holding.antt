@@ -4,9 +4,10 @@ use Rattle.std.specs.List.{AllByRecursion}
 use Rattle.warm_stamps.specs.declared.PageId.{PageId}
 use Rattle.warm_history.specs.Histories.{HistoryView, entries_of}
 use Rattle.warm_pool.specs.declared.fault.PoolFault.{PoolFault}
-use Rattle.warm_pool.specs.declared.fault.PoolFault.TheVariants.{Fixed, NoDevice}
+use Rattle.warm_pool.specs.declared.fault.PoolFault.TheVariants.{Fixed, NoDevice, SizeDiffers}
 use Rattle.warm_pool.specs.Forgetting.{ForgetRefused}
 use Rattle.warm_pool.specs.Frames.{FrameState}
+use Rattle.warm_pool.specs.Outcomes.{FlushDeviceFails, SettlesDevice, WritePageFails, WritesPageBack}
 use Rattle.warm_pool.specs.State.{PoolState}
 use Rattle.warm_pool.specs.View.{frame_view, view_of}
 use Rattle.warm_machine.specs.declared.operation.Operation.{Operation}
@@ -19,20 +20,20 @@ use Rattle.warm_gossip.specs.declared.call.Reply.TheVariants as node_reply
 use Rattle.warm_gossip.specs.declared.fault.NodeFault.{NodeFault}
 use Rattle.warm_gossip.specs.declared.fault.NodeFault.TheVariants.{Memory, Pool, StaleSlot}
 use Rattle.warm_gossip.specs.Clauses.{NodeWriteBackFails, OfPool, SameView}
-use Rattle.warm_gossip.specs.Engine.{KeepsKnown}
+use Rattle.warm_gossip.specs.Engine.{AsksPool, KeepsKnown}
 use Rattle.warm_gossip.specs.State.{NodeState, node_view}
 use Rattle.warm_shards.specs.Laws.{BringsOwn}
 use Rattle.warm_shards.specs.Shards.{AreShards, HasPagesOf, HoldsPagesOf, HoldsShard, shard_at, shard_of}
-use Rattle.warm_shards.proofs.EngineCalls.{forgotten_own, retired_own, same_own, zeroed_own}
+use Rattle.warm_shards.proofs.EngineCalls.{flushed_own, forgotten_own, page_own, retired_own, same_own, zeroed_own}
 use Rattle.warm_shards.proofs.Staying.{failures_stay, steps_stay}
 use Rattle.warm_concurrent.specs.declared.call.ShardCall.{ShardCall}
-use Rattle.warm_concurrent.specs.declared.call.ShardCall.TheVariants.{Absorb, Change, Look, Pin, PinZeroed, TakeIn}
+use Rattle.warm_concurrent.specs.declared.call.ShardCall.TheVariants.{Absorb, Change, Look, Pin, PinFilled, PinZeroed, TakeIn}
 use Rattle.warm_concurrent.specs.declared.call.ShardReply.{ShardReply}
-use Rattle.warm_concurrent.specs.declared.call.ShardReply.TheVariants.{Answers, Changed, Copied, Dirty, Done, Foreign, Looked, Pinned, Portion, Refused}
+use Rattle.warm_concurrent.specs.declared.call.ShardReply.TheVariants.{Answers, Changed, Copied, Dirty, Done, Foreign, Looked, Page, Pinned, Portion, Refused, WasDirty}
 use Rattle.warm_concurrent.specs.Attached.{Known, ShardTurn}
 use Rattle.warm_concurrent.specs.Laws.{ShardsHoldTheirPages}
 use Rattle.warm_concurrent.specs.Opening.{ClosesShard, shards_from, shards_over, state_at}
-use Rattle.warm_concurrent.specs.ShardSteps.{Asked, doing, looking, changing, CallGoes, CallStep, IsOwn, NodeGoes, NodeStep, ShardState, ShardStep, Work, calling, writing_pages, writing_some, writing_back, zeroing, forgetting, taking_in, answering, sending_since, copying, retiring, asked_of, node_reply_of}
+use Rattle.warm_concurrent.specs.ShardSteps.{Asked, doing, looking, changing, CallGoes, CallStep, IsOwn, NodeGoes, NodeStep, ShardState, ShardStep, Work, calling, writing_pages, writing_some, writing_page, writing_back, flushing, zeroing, filling, naming_next, forgetting, taking_in, answering, sending_since, copying, retiring, asked_of, node_reply_of}
 use Rattle.warm_concurrent.proofs.Steps.{runs_keep}
 
 -- ---- a node after one step
@@ -79,6 +80,7 @@ module _ (count i : ℕ) where
   abbrev BringsWork : Work → Type 0
   BringsWork (calling c) = BringsOwn count i c
   BringsWork (zeroing p) = IsHere p
+  BringsWork (filling p bytes) = IsHere p
   BringsWork (taking_in horizon es) = BringsOwn count i (node_call.Receive (Entries 0 horizon es))
   BringsWork w = Unit {0}
 
@@ -91,6 +93,20 @@ module _ (count i : ℕ) where
   step_own n m (writing_some limit) (Dirty left) brings own step = same_stays n m own step.0
   step_own n m (writing_some limit) (Refused why) brings own step = fails_stays n m why own step.0
   step_own n m (writing_some limit) r brings own step = absurd step
+  step_own n m (writing_page p) (WasDirty was_dirty) brings own step =
+      let asked : AsksPool (WritesPageBack p) (WritePageFails p) n (Ok was_dirty) m = record { known = step.0; done = step.1; refused = tt } in
+      pool_own n m own step.0 (page_own IsHere n m p (Ok was_dirty) own.resident asked).own
+  step_own n m (writing_page p) (Refused why) brings own step =
+      let asked : AsksPool (WritesPageBack p) (WritePageFails p) n (Err why) m = record { known = step.0; done = tt; refused = step.1 } in
+      pool_own n m own step.0 (page_own IsHere n m p (Err why) own.resident asked).own
+  step_own n m (writing_page p) r brings own step = absurd step
+  step_own n m (flushing dev) Done brings own step =
+      let asked : AsksPool {T = Unit} (λ s given. SettlesDevice dev s) (FlushDeviceFails dev) n (Ok tt) m = record { known = step.0; done = step.1; refused = tt } in
+      pool_own n m own step.0 (flushed_own IsHere n m dev (Ok tt) own.resident asked).own
+  step_own n m (flushing dev) (Refused why) brings own step =
+      let asked : AsksPool {T = Unit} (λ s given. SettlesDevice dev s) (FlushDeviceFails dev) n (Err why) m = record { known = step.0; done = tt; refused = step.1 } in
+      pool_own n m own step.0 (flushed_own IsHere n m dev (Err why) own.resident asked).own
+  step_own n m (flushing dev) r brings own step = absurd step
   step_own n m writing_back Done brings own step = same_stays n m own step.0
   step_own n m writing_back (Refused why) brings own step = fails_stays n m why own step.0
   step_own n m writing_back r brings own step = absurd step
@@ -100,6 +116,16 @@ module _ (count i : ℕ) where
       let same = ap (λ (fs : List FrameState). map frame_view fs) step.1 in
       pool_own n m own step.0 (same_own IsHere (view_of n.pool) (view_of m.pool) same own.resident)
   step_own n m (zeroing p) r brings own step = absurd step
+  step_own n m (filling p bytes) (Pinned slot) brings own step =
+      steps_stay count i (node_view n) (node_view m) (node_call.Pin p) (node_reply.Pinned slot) brings own step.1
+  step_own n m (filling p bytes) (Refused (Pool SizeDiffers)) brings own step = subst (HoldsShard count i) (sym step.1) own
+  step_own n m (filling p bytes) (Refused (Pool fault)) brings own step =
+      steps_stay count i (node_view n) (node_view m) (node_call.Pin p) (node_reply.Refused (Pool fault)) brings own step.1
+  step_own n m (filling p bytes) (Refused Memory) brings own step = subst (HoldsShard count i) (sym step) own
+  step_own n m (filling p bytes) r brings own step = absurd step
+  step_own n m naming_next (Page next) brings own step = subst (HoldsShard count i) (sym step.1) own
+  step_own n m naming_next (Refused why) brings own step = subst (HoldsShard count i) (sym step.1) own
+  step_own n m naming_next r brings own step = absurd step
   step_own n m (forgetting dev from) Done brings own step =
       pool_own n m own step.0 (forgotten_own IsHere n m dev from own.resident step.0 step.1).own
   step_own n m (forgetting dev from) (Refused why) brings own step =
@@ -138,6 +164,7 @@ module _ (count i : ℕ) where
   own_asked (TakeIn horizon es) own = own
   own_asked (Pin p) own = own
   own_asked (PinZeroed p) own = own
+  own_asked (PinFilled p bytes) own = own
   own_asked (Look p) own = own
   own_asked (Change p) own = own
   own_asked c own = tt

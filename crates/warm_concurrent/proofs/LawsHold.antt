@@ -10,6 +10,7 @@ use Rattle.warm_history.proofs.JoinLemmas.{history_first, history_second}
 use Rattle.warm_machine.specs.declared.operation.Operation.{Operation}
 use Rattle.warm_machine.specs.Runs.{Runs, operation}
 use Rattle.warm_turn.proofs.Passes.{Extended-called, Widened-joined}
+use Rattle.warm_pool.specs.declared.fault.PoolFault.TheVariants.{SizeDiffers}
 use Rattle.warm_gossip.specs.Clauses.{JoinsEntries, NodeWriteBackFails, SameView}
 use Rattle.warm_gossip.specs.State.{NodeState, NodeView, node_view}
 use Rattle.warm_gossip.specs.declared.call.Call.{Call}
@@ -25,12 +26,12 @@ use Rattle.warm_stamps.specs.declared.Reference.{Reference}
 use Rattle.warm_concurrent.specs.declared.call.ShardCall.{ShardCall}
 use Rattle.warm_concurrent.specs.declared.call.ShardCall.TheVariants.{Absorb, Answer, Offer}
 use Rattle.warm_concurrent.specs.declared.call.ShardReply.{ShardReply}
-use Rattle.warm_concurrent.specs.declared.call.ShardReply.TheVariants.{Answers, Changed, Copied, Dirty, Done, Foreign, Kept, Looked, Pinned, Portion, Refused}
+use Rattle.warm_concurrent.specs.declared.call.ShardReply.TheVariants.{Answers, Changed, Copied, Dirty, Done, Foreign, Kept, Looked, Page, Pinned, Portion, Refused, WasDirty}
 use Rattle.warm_concurrent.specs.Answering.{AnswersPart, Offers, offer_at, offer_reply}
 use Rattle.warm_concurrent.specs.Attached.{KeepsOtherPasses, ShardPass, known_of, no_pass, shard_pass}
 use Rattle.warm_concurrent.specs.Clauses.{Got}
 use Rattle.warm_concurrent.specs.Laws.{CallsAreANodes, OnlySeesMore, OverCalls, SeesMore, ShardIsOfGiven, TogetherAreOfGiven, all_of, asked_steps, given_by_reply, given_by_step, given_by_steps, held_by, node_steps}
-use Rattle.warm_concurrent.specs.ShardSteps.{Asked, doing, looking, changing, CallGoes, NodeGoes, NodeStep, ShardState, ShardStep, Work, calling, writing_pages, writing_some, writing_back, zeroing, forgetting, taking_in, answering, sending_since, copying, retiring, asked_of, node_reply_of}
+use Rattle.warm_concurrent.specs.ShardSteps.{Asked, doing, looking, changing, CallGoes, NodeGoes, NodeStep, ShardState, ShardStep, Work, calling, writing_pages, writing_some, writing_page, writing_back, flushing, zeroing, filling, naming_next, forgetting, taking_in, answering, sending_since, copying, retiring, asked_of, node_reply_of}
 use Rattle.warm_concurrent.specs.Whole.{AbsorbsPart, Does, First, RaisesShard, TakesPart, part_call, part_of}
 use Rattle.warm_concurrent.proofs.Places.{at_each}
 
@@ -41,8 +42,12 @@ not_foreign : (x y : NodeState) (w : Work) → NodeStep x w Foreign y → ⊥
 not_foreign x y (calling c) step = step
 not_foreign x y writing_pages step = step
 not_foreign x y (writing_some limit) step = step
+not_foreign x y (writing_page p) step = step
 not_foreign x y writing_back step = step
+not_foreign x y (flushing dev) step = step
 not_foreign x y (zeroing p) step = step
+not_foreign x y (filling p bytes) step = step
+not_foreign x y naming_next step = step
 not_foreign x y (forgetting dev from) step = step
 not_foreign x y (taking_in horizon es) step = step
 not_foreign x y (answering request) step = step
@@ -130,12 +135,26 @@ beside o y writing_pages r is step = absurd step
 beside o y (writing_some limit) (Dirty left) is step = same_history o y step.0
 beside o y (writing_some limit) (Refused why) is step = failed_history o y why step.0
 beside o y (writing_some limit) r is step = absurd step
+beside o y (writing_page p) (WasDirty was_dirty) is step = step.0.history
+beside o y (writing_page p) (Refused why) is step = step.0.history
+beside o y (writing_page p) r is step = absurd step
+beside o y (flushing dev) Done is step = step.0.history
+beside o y (flushing dev) (Refused why) is step = step.0.history
+beside o y (flushing dev) r is step = absurd step
 beside o y writing_back Done is step = same_history o y step.0
 beside o y writing_back (Refused why) is step = failed_history o y why step.0
 beside o y writing_back r is step = absurd step
 beside o y (zeroing p) (Pinned slot) is step = step.0.history
 beside o y (zeroing p) (Refused why) is step = step.0.history
 beside o y (zeroing p) r is step = absurd step
+beside o y (filling p bytes) (Pinned slot) is step = ap (λ (n : NodeView). n.history) step.1.0
+beside o y (filling p bytes) (Refused (Pool SizeDiffers)) is step = ap (λ (n : NodeState). n.history) step.1
+beside o y (filling p bytes) (Refused (Pool _)) is step = ap (λ (n : NodeView). n.history) step.1.0
+beside o y (filling p bytes) (Refused Memory) is step = ap (λ (n : NodeState). n.history) step
+beside o y (filling p bytes) r is step = absurd step
+beside o y naming_next (Page next) is step = ap (λ (n : NodeState). n.history) step.1
+beside o y naming_next (Refused why) is step = ap (λ (n : NodeState). n.history) step.1
+beside o y naming_next r is step = absurd step
 beside o y (forgetting dev from) Done is step = step.0.history
 beside o y (forgetting dev from) (Refused why) is step = step.0.history
 beside o y (forgetting dev from) r is step = absurd step
@@ -162,8 +181,12 @@ one_given S o y (taking_in horizon es) (Refused why) stands step = same_history 
 one_given S o y (taking_in horizon es) r stands step = absurd step
 one_given S o y writing_pages r stands step = beside o y writing_pages r tt step ∙ stands
 one_given S o y (writing_some limit) r stands step = beside o y (writing_some limit) r tt step ∙ stands
+one_given S o y (writing_page p) r stands step = beside o y (writing_page p) r tt step ∙ stands
+one_given S o y (flushing dev) r stands step = beside o y (flushing dev) r tt step ∙ stands
 one_given S o y writing_back r stands step = beside o y writing_back r tt step ∙ stands
 one_given S o y (zeroing p) r stands step = beside o y (zeroing p) r tt step ∙ stands
+one_given S o y (filling p bytes) r stands step = beside o y (filling p bytes) r tt step ∙ stands
+one_given S o y naming_next r stands step = beside o y naming_next r tt step ∙ stands
 one_given S o y (forgetting dev from) r stands step = beside o y (forgetting dev from) r tt step ∙ stands
 one_given S o y (answering request) r stands step = beside o y (answering request) r tt step ∙ stands
 one_given S o y (sending_since bucket since after) r stands step = beside o y (sending_since bucket since after) r tt step ∙ stands

@@ -16,6 +16,7 @@ pub mod Sent
 pub mod Holding
 pub mod Lends
 pub mod Reading
+pub mod Filled
 pub mod Looked
 pub mod Sets
 pub mod Gave

@@ -2,11 +2,14 @@
 use Rattle.std.proofs.Common.{◌≡◌, ℕ, ◌+◌, List, [], ◌∷◌, map, Option, Some, None, refl, sym, ap, subst, arith}
 use Rattle.std.proofs.lemmas.List.Sums.{sum_by-cons}
 use Rattle.warm_stamps.specs.declared.PageId.{PageId}
-use Rattle.warm_pool.specs.declared.fault.PoolFault.TheVariants.{Fixed, NoDevice}
+use Rattle.warm_pool.specs.declared.fault.PoolFault.{PoolFault}
+use Rattle.warm_pool.specs.declared.fault.PoolFault.TheVariants.{Fault, Fixed, NoDevice, SizeDiffers}
 use Rattle.warm_pool.specs.Forgetting.{ForgetRefused}
 use Rattle.warm_pool.specs.Frames.{FrameState}
+use Rattle.warm_pool.specs.Outcomes.{WritePageFails}
 use Rattle.warm_pool.specs.State.{PoolState}
 use Rattle.warm_pool.specs.View.{PoolView, frame_view, view_of}
+use Rattle.warm_pool.specs.WritingSome.{FlushRefused}
 use Rattle.warm_gossip.specs.declared.call.Call.{Call}
 use Rattle.warm_gossip.specs.declared.call.Call.TheVariants as node_call
 use Rattle.warm_gossip.specs.declared.call.Reply.{Reply}
@@ -17,9 +20,9 @@ use Rattle.warm_gossip.specs.Clauses.{NodeWriteBackFails, OfPool, SameView}
 use Rattle.warm_gossip.specs.State.{NodeState, NodeView, node_view}
 use Rattle.warm_machine.specs.Runs.{Runs}
 use Rattle.warm_concurrent.specs.declared.call.ShardCall.{ShardCall}
-use Rattle.warm_concurrent.specs.declared.call.ShardCall.TheVariants.{Absorb, Answer, Change, CopyHistory, ForgetPages, Look, Offer, Pin, PinZeroed, Raise, Read, Retire, Send, SendSince, TakeIn, Unpin, Victim, WarmList, WarmStep, Write, WriteBack, WritePages, WriteSome}
+use Rattle.warm_concurrent.specs.declared.call.ShardCall.TheVariants.{Absorb, Answer, Change, CopyHistory, FlushDevice, ForgetPages, Look, Offer, Pin, PinFilled, PinZeroed, Raise, Read, Retire, Send, SendSince, TakeIn, Unpin, Victim, WarmList, WarmNext, WarmStep, Write, WriteBack, WritePage, WritePages, WriteSome}
 use Rattle.warm_concurrent.specs.declared.call.ShardReply.{ShardReply}
-use Rattle.warm_concurrent.specs.declared.call.ShardReply.TheVariants.{Answers, Changed, Copied, Dirty, Done, Foreign, Loaded, Looked, Pinned, Portion, Refused}
+use Rattle.warm_concurrent.specs.declared.call.ShardReply.TheVariants.{Answers, Changed, Copied, Dirty, Done, Foreign, Loaded, Looked, Page, Pinned, Portion, Refused, WasDirty}
 use Rattle.warm_concurrent.specs.Given.{Log}
 use Rattle.warm_concurrent.specs.Pins.{LeadsTo, PinsAreGiven, pin_by, pool_pins, unpin_by}
 use Rattle.warm_concurrent.specs.ShardSteps.{CallGoes, NodeGoes, ShardState, ShardStep, asked_of, node_reply_of}
@@ -55,6 +58,19 @@ unforgotten s t dev from (Pool _) refused = absurd refused
 unforgotten s t dev from Memory refused = absurd refused
 unforgotten s t dev from StaleSlot refused = absurd refused
 
+-- the write of a page failed, or the flush of a device
+unwritten : (s t : PoolState) (p : PageId) (why : NodeFault)
+    → OfPool (λ fault. WritePageFails p s fault t) why → (view_of t).frames ≡ (view_of s).frames
+unwritten s t p (Pool why) failed = ap (λ (fs : List FrameState). map frame_view fs) failed.cause.1.frames
+unwritten s t p Memory failed = absurd failed
+unwritten s t p StaleSlot failed = absurd failed
+
+unflushed : (s t : PoolState) (dev : ℕ) (fault : PoolFault) → FlushRefused s dev fault t
+    → (view_of t).frames ≡ (view_of s).frames
+unflushed s t dev NoDevice refused = ap (λ (x : PoolState). (view_of x).frames) refused.1
+unflushed s t dev Fault refused = ap (λ (v : PoolView). v.frames) refused.1.becomes
+unflushed s t dev _ refused = absurd refused
+
 -- a call that does nothing with pins
 calm : (n m : NodeState) (call : Call) (k : Option Reply) → IsCalm call → IsFree (view_of n.pool)
     → CallGoes n call k m → NodeMoves 0 0 n m
@@ -82,6 +98,7 @@ goes_moves n m (Send bucket after) r free step = calm n m (node_call.Send bucket
 goes_moves n m (Pin p) (Pinned slot) free step = pin_moves (node_view n) (node_view m) p slot step.0 free
 goes_moves n m (Pin p) (Refused why) free step = unpinned_page n m p why free step
 goes_moves n m (Pin p) (Dirty left) free step = absurd step
+goes_moves n m (Pin p) (WasDirty was_dirty) free step = absurd step
 goes_moves n m (Pin p) (Portion message more) free step = absurd step
 goes_moves n m (Pin p) (Copied history) free step = absurd step
 goes_moves n m (Pin p) (Looked slot bytes) free step = absurd step
@@ -92,6 +109,7 @@ goes_moves n m (Unpin slot) Done free step = unpin_moves (node_view n) (node_vie
 goes_moves n m (Unpin slot) (Refused why) free step =
     stays n m free (refused_same (node_view n) (node_view m) (node_call.Unpin slot) why step.0)
 goes_moves n m (Unpin slot) (Dirty left) free step = absurd step
+goes_moves n m (Unpin slot) (WasDirty was_dirty) free step = absurd step
 goes_moves n m (Unpin slot) (Portion message more) free step = absurd step
 goes_moves n m (Unpin slot) (Copied history) free step = absurd step
 goes_moves n m (Unpin slot) (Looked at bytes) free step = absurd step
@@ -102,6 +120,7 @@ goes_moves n m WarmStep (Loaded page) free step = warm_moves (node_view n) (node
 goes_moves n m WarmStep (Refused why) free step =
     stays n m free (refused_same (node_view n) (node_view m) node_call.WarmStep why step.0)
 goes_moves n m WarmStep (Dirty left) free step = absurd step
+goes_moves n m WarmStep (WasDirty was_dirty) free step = absurd step
 goes_moves n m WarmStep (Portion message more) free step = absurd step
 goes_moves n m WarmStep (Copied history) free step = absurd step
 goes_moves n m WarmStep (Looked slot bytes) free step = absurd step
@@ -116,6 +135,15 @@ goes_moves n m (PinZeroed p) (Pinned slot) free step =
 goes_moves n m (PinZeroed p) (Refused why) free step =
     stays n m free (ap (λ (fs : List FrameState). map frame_view fs) step.1)
 goes_moves n m (PinZeroed p) r free step = absurd step
+goes_moves n m (PinFilled p bytes) (Pinned slot) free step = pin_moves (node_view n) (node_view m) p slot step.1 free
+goes_moves n m (PinFilled p bytes) (Refused (Pool SizeDiffers)) free step = stays n m free (unmoved n m step.1)
+goes_moves n m (PinFilled p bytes) (Refused (Pool fault)) free step =
+    stays n m free (refused_same (node_view n) (node_view m) (node_call.Pin p) (Pool fault) step.1)
+goes_moves n m (PinFilled p bytes) (Refused Memory) free step = stays n m free (unmoved n m step)
+goes_moves n m (PinFilled p bytes) r free step = absurd step
+goes_moves n m WarmNext (Page page) free step = stays n m free (unmoved n m step.1)
+goes_moves n m WarmNext (Refused why) free step = stays n m free (unmoved n m step.1)
+goes_moves n m WarmNext r free step = absurd step
 goes_moves n m (SendSince bucket since after) (Portion message more) free step = stays n m free (unmoved n m step.2)
 goes_moves n m (SendSince bucket since after) (Refused why) free step = stays n m free (unmoved n m step.1)
 goes_moves n m (SendSince bucket since after) r free step = absurd step
@@ -131,6 +159,15 @@ goes_moves n m WritePages r free step = absurd step
 goes_moves n m (WriteSome limit) (Dirty left) free step = stays n m free (unseen n m step.0)
 goes_moves n m (WriteSome limit) (Refused why) free step = stays n m free (fails n m why step.0)
 goes_moves n m (WriteSome limit) r free step = absurd step
+goes_moves n m (WritePage p) (WasDirty was_dirty) free step =
+    stays n m free (ap (λ (v : PoolView). v.frames) step.1.same)
+goes_moves n m (WritePage p) (Refused why) free step = stays n m free (unwritten n.pool m.pool p why step.1)
+goes_moves n m (WritePage p) r free step = absurd step
+goes_moves n m (FlushDevice dev) Done free step = stays n m free (ap (λ (v : PoolView). v.frames) step.1.same)
+goes_moves n m (FlushDevice dev) (Refused (Pool fault)) free step =
+    stays n m free (unflushed n.pool m.pool dev fault step.1.cause)
+goes_moves n m (FlushDevice dev) (Refused why) free step = absurd step.1
+goes_moves n m (FlushDevice dev) r free step = absurd step
 goes_moves n m WriteBack Done free step = stays n m free (unseen n m step.0)
 goes_moves n m WriteBack (Refused why) free step = stays n m free (fails n m why step.0)
 goes_moves n m WriteBack r free step = absurd step
@@ -164,6 +201,7 @@ goes_moves n m (Change p) r free step = absurd step
 pin_none : (c : ShardCall) → pin_by c Foreign ≡ 0
 pin_none (Pin p) = refl
 pin_none (PinZeroed p) = refl
+pin_none (PinFilled p bytes) = refl
 pin_none c = refl
 
 unpin_none : (c : ShardCall) → unpin_by c Foreign ≡ 0
@@ -173,6 +211,7 @@ unpin_none c = refl
 pub pin_refused : (c : ShardCall) (why : NodeFault) → pin_by c (Refused why) ≡ 0
 pin_refused (Pin p) why = refl
 pin_refused (PinZeroed p) why = refl
+pin_refused (PinFilled p bytes) why = refl
 pin_refused c why = refl
 
 pub unpin_refused : (c : ShardCall) (why : NodeFault) → unpin_by c (Refused why) ≡ 0

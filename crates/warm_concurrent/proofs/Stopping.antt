@@ -6,6 +6,7 @@ use Rattle.std.proofs.lemmas.List.{get_or-set_other, length-set}
 use Rattle.warm_stamps.specs.declared.Reference.{Reference}
 use Rattle.warm_history.specs.ReferenceSets.{ReferenceSet, set_of_list, ◌∪◌}
 use Rattle.warm_history.specs.References.{IsIn}
+use Rattle.warm_history.specs.Histories.{references_of}
 use Rattle.warm_turn.specs.CallHistories.{marked}
 use Rattle.warm_peer.specs.Answers.{refs_in}
 use Rattle.warm_shards.specs.Shards.{of_first_shards, of_shard, shard_of}
@@ -26,7 +27,7 @@ use Rattle.warm_concurrent.specs.Clauses.{AnsweredByShard, CallFails}
 use Rattle.warm_concurrent.specs.Given.{HasGiven, SameGiven, ThreadsGive, gave_call, given_to_first, only_horizon, shards_given}
 use Rattle.warm_concurrent.specs.Answering.{AnswerFails, AnswersPart, OfferFails, Offers, offer_at, offer_reply}
 use Rattle.warm_concurrent.specs.Gossip.{DigestsStop, ReceiveStops, RequestStops}
-use Rattle.warm_concurrent.specs.Whole.{AbsorbFails, RaiseFails, RaisesFirst, TakeFails, part_call, part_of}
+use Rattle.warm_concurrent.specs.Whole.{AbsorbFails, RaiseFails, RaisesFirst, TakeFails, history_message, part_call, part_of}
 use Rattle.warm_concurrent.proofs.Gave.{EachGives, Gives, absorbed_each, all_given, answer_gives, as_given, gathered_each, given_as, given_by_sum, given_none, given_then, gives_as, gives_called, gives_none, message_each, none_twice, raised_each, taken_each}
 use Rattle.warm_concurrent.proofs.LawsHold.{below}
 use Rattle.warm_concurrent.proofs.Sets.{none_union, same_self, sum, union_none}
@@ -341,5 +342,7 @@ threads_give old new count = record {
   raise_stopped = λ time k why so. raise_stopped time k why old new so;
   received = λ message answers so. all_given (refs_in message) old new count (message_each message answers old new so);
   receipt_stopped = λ message why so. receipt_stopped message why old new so;
+  joined = λ h so. all_given (references_of h) old new count (taken_each (history_message h) (length old) old new so);
+  join_stopped = λ h k why so. take_stopped (history_message h) k why old new so;
   called = λ i call reply lt so. called_given old new i call reply lt so;
 }

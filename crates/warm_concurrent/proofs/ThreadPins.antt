@@ -10,7 +10,7 @@ use Rattle.warm_machine.specs.Runs.{operation}
 use Rattle.warm_turn.specs.declared.table.EndedPass.{EndedPass}
 use Rattle.warm_turn.specs.CallHistories.{as_ended}
 use Rattle.warm_concurrent.specs.declared.call.ShardCall.{ShardCall}
-use Rattle.warm_concurrent.specs.declared.call.ShardCall.TheVariants.{Absorb, Answer, CopyHistory, Offer, Pin, PinZeroed, Raise}
+use Rattle.warm_concurrent.specs.declared.call.ShardCall.TheVariants.{Absorb, Answer, CopyHistory, Offer, Pin, PinFilled, PinZeroed, Raise}
 use Rattle.warm_concurrent.specs.declared.call.ShardReply.{ShardReply}
 use Rattle.warm_concurrent.specs.declared.call.ShardReply.TheVariants.{Answers, Copied, Done, Kept, Refused}
 use Rattle.warm_concurrent.specs.declared.fault.SharedFault.{SharedFault}
@@ -190,6 +190,7 @@ answer_quiet count request messages i p q (part, own, none, some) = cases part r
 done_gives_none : (c : ShardCall) → pin_by c Done ≡ 0
 done_gives_none (Pin p) = refl
 done_gives_none (PinZeroed p) = refl
+done_gives_none (PinFilled p bytes) = refl
 done_gives_none c = refl
 
 -- ---- the law

@@ -7,6 +7,7 @@ use Rattle.warm_history.specs.Histories.{HistoryView, StandsFor, references_of}
 use Rattle.warm_rank.specs.Laws.{IsFarthest}
 use Rattle.warm_rank.specs.Ranking.{IsVictim}
 use Rattle.warm_rank.proofs.VictimLemmas.{victim_is_farthest}
+use Rattle.warm_pool.specs.declared.fault.PoolFault.TheVariants.{SizeDiffers}
 use Rattle.warm_pool.specs.declared.slot.Slot.{Slot}
 use Rattle.warm_pool.specs.Frames.{FrameState}
 use Rattle.warm_pool.specs.View.{FrameView, PoolView, frame_at, frame_view, unfixed_pages, view_of}
@@ -17,11 +18,13 @@ use Rattle.warm_gossip.specs.declared.call.Call.{Call}
 use Rattle.warm_gossip.specs.declared.call.Call.TheVariants as node_call
 use Rattle.warm_gossip.specs.declared.call.Reply.{Reply}
 use Rattle.warm_gossip.specs.declared.call.Reply.TheVariants as node_reply
+use Rattle.warm_gossip.specs.declared.fault.NodeFault.TheVariants.{Memory, Pool}
+use Rattle.warm_gossip.specs.Clauses.{Goes}
 use Rattle.warm_gossip.specs.State.{NodeState, NodeView, node_view}
 use Rattle.warm_gossip.specs.Victims.{IsEvicted}
 use Rattle.warm_gossip.proofs.VictimLemmas.{KeepsPages, fixes_change, no_frame, victims_are_farthest}
 use Rattle.warm_concurrent.specs.declared.call.ShardCall.{ShardCall}
-use Rattle.warm_concurrent.specs.declared.call.ShardCall.TheVariants.{Change, Look, Pin, PinZeroed, Victim, WarmStep}
+use Rattle.warm_concurrent.specs.declared.call.ShardCall.TheVariants.{Change, Look, Pin, PinFilled, PinZeroed, Victim, WarmStep}
 use Rattle.warm_concurrent.specs.declared.call.ShardReply.{ShardReply}
 use Rattle.warm_concurrent.specs.declared.call.ShardReply.TheVariants.{Changed, Foreign, Looked, Page, Pinned, Refused}
 use Rattle.warm_concurrent.specs.Attached.{known_of}
@@ -118,6 +121,13 @@ pin_other p e = absurd (cc)
 warm_other : node_call.WarmStep ≢ node_call.Restart
 warm_other e = absurd (cc)
 
+-- a pin that goes as the call does, whatever it leaves of devices
+filled_leaves : (G : ReferenceSet) (o m : NodeState) (p : PageId) (r : Reply) → StandsFor o.history G
+    → Goes o (node_call.Pin p) r m → (v : PageId) → IsEvicted (pages_of o) (pages_of m) v
+    → IsFarthest G (unfixed_pages (pages_of o)) v
+filled_leaves G o m p r stands goes v gone =
+    (victims_are_farthest G (node_view o) (node_view m) (node_call.Pin p) r stands goes).leaves v (pin_other p) gone
+
 -- nothing leaves where nothing changes
 none_left : (v : PoolView) (p : PageId) → IsEvicted v v p → ⊥
 none_left v p (was, gone) = gone was.frame was.holds
@@ -133,6 +143,10 @@ module _ (G : ReferenceSet) (o m : ShardState) (stands : StandsFor o.node.histor
   same_leaves same gone =
       absurd (none_left (pages_of o.node) v (subst (λ (s : ShardState). IsEvicted (pages_of o.node) (pages_of s.node) v) same gone))
 
+  node_leaves : m.node ≡ o.node → Leaves → Farthest
+  node_leaves same gone =
+      absurd (none_left (pages_of o.node) v (subst (λ (n : NodeState). IsEvicted (pages_of o.node) (pages_of n) v) same gone))
+
   step_leaves : (c : ShardCall) (r : ShardReply) → FillsFrame c → ShardStep o c r m → Leaves → Farthest
   step_leaves (Pin p) Foreign loads step gone = same_leaves step.1 gone
   step_leaves (Pin p) r loads step gone = goes_leaves G o.node m.node stands v (node_call.Pin p) (node_reply_of r) step.2 (pin_other p) gone
@@ -142,6 +156,12 @@ module _ (G : ReferenceSet) (o m : ShardState) (stands : StandsFor o.node.histor
       let same = ap (λ (fs : List FrameState). map frame_view fs) step.2.1 in
       absurd (none_kept (pages_of o.node) (pages_of m.node) v (same_pages (pages_of o.node) (pages_of m.node) same) gone)
   step_leaves (PinZeroed p) r loads step gone = absurd step.2
+  step_leaves (PinFilled p bytes) Foreign loads step gone = same_leaves step.1 gone
+  step_leaves (PinFilled p bytes) (Pinned slot) loads step gone = filled_leaves G o.node m.node p (node_reply.Pinned slot) stands step.2.1 v gone
+  step_leaves (PinFilled p bytes) (Refused (Pool SizeDiffers)) loads step gone = node_leaves step.2.1 gone
+  step_leaves (PinFilled p bytes) (Refused (Pool fault)) loads step gone = filled_leaves G o.node m.node p (node_reply.Refused (Pool fault)) stands step.2.1 v gone
+  step_leaves (PinFilled p bytes) (Refused Memory) loads step gone = node_leaves step.2 gone
+  step_leaves (PinFilled p bytes) r loads step gone = absurd step.2
   step_leaves WarmStep Foreign loads step gone = same_leaves step.1 gone
   step_leaves WarmStep r loads step gone = goes_leaves G o.node m.node stands v node_call.WarmStep (node_reply_of r) step.2 warm_other gone
   step_leaves (Look p) Foreign loads step gone = same_leaves step.1 gone

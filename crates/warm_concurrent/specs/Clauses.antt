@@ -7,7 +7,7 @@ use Rattle.warm_gossip.specs.declared.fault.NodeFault.TheVariants.{StaleSlot}
 use Rattle.warm_concurrent.specs.declared.call.ShardCall.{ShardCall}
 use Rattle.warm_concurrent.specs.declared.call.ShardCall.TheVariants.{Absorb, TakeIn, Write}
 use Rattle.warm_concurrent.specs.declared.call.ShardCall.TheVariants.{WritePages, WriteBack}
-use Rattle.warm_concurrent.specs.declared.call.ShardCall.TheVariants.{ForgetPages}
+use Rattle.warm_concurrent.specs.declared.call.ShardCall.TheVariants.{FlushDevice, ForgetPages}
 use Rattle.warm_concurrent.specs.declared.call.ShardReply.{ShardReply}
 use Rattle.warm_concurrent.specs.declared.call.ShardReply.TheVariants.{Done, Refused}
 use Rattle.warm_concurrent.specs.declared.fault.SharedFault.{SharedFault}
@@ -66,5 +66,6 @@ IsDoneCall count i (TakeIn horizon entries) = IsOwn count i (TakeIn horizon entr
 IsDoneCall count i (Write slot at bytes) = Unit {0}
 IsDoneCall count i WritePages = Unit {0}
 IsDoneCall count i WriteBack = Unit {0}
+IsDoneCall count i (FlushDevice dev) = Unit {0}
 IsDoneCall count i (ForgetPages dev from) = Unit {0}
 IsDoneCall count i call = ⊥

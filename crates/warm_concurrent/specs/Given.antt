@@ -8,7 +8,8 @@ use Rattle.warm_stamps.specs.declared.PageId.{PageId}
 use Rattle.warm_stamps.specs.declared.Reference.{Reference}
 use Rattle.warm_history.specs.ReferenceSets.{ReferenceSet, set_of_list, ◌∪◌}
 use Rattle.warm_history.specs.References.{IsIn}
-use Rattle.warm_history.specs.Histories.{StandsFor, history_of_entries_at, references_of}
+use Rattle.warm_history.specs.Histories.{HistoryView, StandsFor, history_of_entries_at}
+use Rattle.warm_history.specs.Histories.{references_of}
 use Rattle.warm_rank.specs.Laws.{IsFarthest}
 use Rattle.warm_frames.specs.declared.message.Message.{Message}
 use Rattle.warm_pool.specs.View.{unfixed_pages, view_of}
@@ -24,7 +25,8 @@ use Rattle.warm_gossip.specs.Victims.{IsEvicted}
 use Rattle.warm_shards.specs.Shards.{AreShards, IsShardCount, of_first_shards, shard_at, whole}
 use Rattle.warm_concurrent.specs.declared.call.ShardCall.{ShardCall}
 use Rattle.warm_concurrent.specs.declared.call.ShardCall.TheVariants.{Absorb, Raise, Pin, Look, Change}
-use Rattle.warm_concurrent.specs.declared.call.ShardCall.TheVariants.{PinZeroed, TakeIn, Victim, WarmStep}
+use Rattle.warm_concurrent.specs.declared.call.ShardCall.TheVariants.{PinFilled, PinZeroed, TakeIn}
+use Rattle.warm_concurrent.specs.declared.call.ShardCall.TheVariants.{Victim, WarmStep}
 use Rattle.warm_concurrent.specs.declared.call.ShardReply.{ShardReply}
 use Rattle.warm_concurrent.specs.declared.call.ShardReply.TheVariants.{Done, Kept, Page}
 use Rattle.warm_concurrent.specs.declared.fault.SharedFault.{SharedFault}
@@ -37,7 +39,8 @@ use Rattle.warm_concurrent.specs.Laws.{all_of}
 use Rattle.warm_concurrent.specs.Opening.{AreClosed, AreFirst, AreHalved, PassesAreJoined, AreSplit}
 use Rattle.warm_concurrent.specs.Opening.{openings, shards_over}
 use Rattle.warm_concurrent.specs.ShardSteps.{ShardState, ShardStep}
-use Rattle.warm_concurrent.specs.Whole.{AbsorbFails, AbsorbsFirst, RaiseFails, RaisesFirst}
+use Rattle.warm_concurrent.specs.Whole.{AbsorbFails, AbsorbsFirst, JoinFails, JoinsFirst}
+use Rattle.warm_concurrent.specs.Whole.{RaiseFails, RaisesFirst}
 
 -- Sets of references
 
@@ -136,8 +139,9 @@ shards_given count (Taking at) = at.shard
 shards_given count why = count
 
 -- What a thread's call gave: the batch that it absorbed, the horizon that it raised, or the
--- references and the horizon of the message that it received; of each of these that stopped at a
--- shard, just the parts of the shards before; and what any other call of one shard gave that one.
+-- references and the horizon of the message that it received, or of the history that it joined; of
+-- each of these that stopped at a shard, just the parts of the shards before; and what any other
+-- call of one shard gave that one.
 pub record CallsAreGiven (old new : List ShardPass) : Type 0 where
   pub absorbed : (batch : List Reference) → AbsorbsFirst batch (length old) old new
       → HasGiven (set_of_list batch) old new
@@ -154,6 +158,10 @@ pub record CallsAreGiven (old new : List ShardPass) : Type 0 where
   pub receipt_stopped : (message : Message) (why : NotReceived) → ReceiveStops message why old new
       → HasGiven (given_to_first (length old) (shards_given (length old) why) (refs_in message))
       old new
+  pub joined : (h : HistoryView) → JoinsFirst h (length old) old new
+      → HasGiven (references_of h) old new
+  pub join_stopped : (h : HistoryView) (k : ℕ) (why : SharedFault) → JoinFails h k why old new
+      → HasGiven (given_to_first (length old) k (references_of h)) old new
   pub called : (i : ℕ) (call : ShardCall) (reply : ShardReply) → i < length old
       → AnsweredByShard old i call reply new → HasGiven (gave_call call reply) old new
 
@@ -182,6 +190,7 @@ TwoThreadsAreHeld = (S : ReferenceSet) (opened : List NodeState) (turns : List S
 abbrev pub FillsFrame : ShardCall → Type 0
 FillsFrame (Pin page) = Unit {0}
 FillsFrame (PinZeroed page) = Unit {0}
+FillsFrame (PinFilled page bytes) = Unit {0}
 FillsFrame (Look page) = Unit {0}
 FillsFrame (Change page) = Unit {0}
 FillsFrame WarmStep = Unit {0}

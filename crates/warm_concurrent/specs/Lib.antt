@@ -11,6 +11,7 @@ pub mod Given
 pub mod Answering
 pub mod Copying
 pub mod Retiring
+pub mod Filling
 pub mod Gossip
 pub mod Visits
 pub mod Pins

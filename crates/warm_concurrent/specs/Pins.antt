@@ -38,7 +38,8 @@ use Rattle.warm_gossip.specs.State.{NodeState}
 use Rattle.warm_shards.specs.Shards.{shard_at}
 use Rattle.warm_concurrent.specs.declared.answering.Offered.{Offered}
 use Rattle.warm_concurrent.specs.declared.call.ShardCall.{ShardCall}
-use Rattle.warm_concurrent.specs.declared.call.ShardCall.TheVariants.{Pin, PinZeroed, Unpin}
+use Rattle.warm_concurrent.specs.declared.call.ShardCall.TheVariants.{Pin, PinFilled, PinZeroed}
+use Rattle.warm_concurrent.specs.declared.call.ShardCall.TheVariants.{Unpin}
 use Rattle.warm_concurrent.specs.declared.call.ShardReply.{ShardReply}
 use Rattle.warm_concurrent.specs.declared.call.ShardReply.TheVariants.{Done, Pinned}
 use Rattle.warm_concurrent.specs.declared.fault.SharedFault.{SharedFault}
@@ -75,6 +76,7 @@ NoneIsPinned nodes = (i : ℕ) → i < length nodes → IsUnfixed (view_of (shar
 abbrev pub pin_by : ShardCall → ShardReply → ℕ
 pin_by (Pin page) (Pinned slot) = 1
 pin_by (PinZeroed page) (Pinned slot) = 1
+pin_by (PinFilled page bytes) (Pinned slot) = 1
 pin_by call reply = 0
 
 abbrev pub unpin_by : ShardCall → ShardReply → ℕ

@@ -1,5 +1,5 @@
 -- A shard as a machine: the calls of a node that it answers, and its steps.
-use Rattle.std.specs.Prelude.{◌≡◌, ◌↔◌, ℕ, ◌%◌, ◌<◌, IsTrue, List, length, Option, Some, None}
+use Rattle.std.specs.Prelude.{◌≡◌, ◌≢◌, ◌↔◌, ℕ, ◌%◌, ◌<◌, IsTrue, List, length, Option, Some, None}
 use Rattle.std.specs.Prelude.{Result, Ok, Err}
 use Rattle.std.specs.Int.{bit_at}
 use Rattle.std.specs.List.{All}
@@ -8,9 +8,13 @@ use Rattle.warm_stamps.specs.declared.TheConstants.{BUCKETS}
 use Rattle.warm_stamps.specs.declared.PageId.{PageId}
 use Rattle.warm_history.specs.declared.hist.Entry.{Entry}
 use Rattle.warm_pool.specs.declared.slot.Slot.{Slot}
+use Rattle.warm_pool.specs.declared.fault.PoolFault.TheVariants.{SizeDiffers}
+use Rattle.warm_pool.specs.Filling.{TakesFilled}
 use Rattle.warm_pool.specs.Forgetting.{ForgetRefused, Forgets}
 use Rattle.warm_devices.specs.Device.{DeviceState}
 use Rattle.warm_pool.specs.Keeping.{KeepsBytes, KeepsFrames}
+use Rattle.warm_pool.specs.Outcomes.{FlushDeviceFails, SettlesDevice, UnreadPinFails}
+use Rattle.warm_pool.specs.Outcomes.{WritePageFails, WritesPageBack}
 use Rattle.warm_pool.specs.PageBytes.{IsLent}
 use Rattle.warm_pool.specs.Retiring.{KeepsElsewhere, RetireRefused, Retired}
 use Rattle.warm_pool.specs.State.{IsSettled}
@@ -29,7 +33,8 @@ use Rattle.warm_gossip.specs.Clauses.{SameView}
 use Rattle.warm_peer.specs.Answers.{requested_messages}
 use Rattle.warm_peer.specs.Since.{HasMoreSince, sent_since}
 use Rattle.warm_gossip.specs.Engine.{KeepsKnown}
-use Rattle.warm_gossip.specs.State.{NodeState}
+use Rattle.warm_gossip.specs.State.{NodeState, node_view}
+use Rattle.warm_gossip.specs.Step.{IsNextWarm}
 use Rattle.warm_shards.specs.Shards.{no_shard, shard_of}
 use Rattle.warm_concurrent.specs.declared.call.ShardCall.{ShardCall}
 use Rattle.warm_concurrent.specs.declared.call.ShardCall.TheVariants.{Absorb, Raise, Pin, Unpin}
@@ -40,13 +45,15 @@ use Rattle.warm_concurrent.specs.declared.call.ShardCall.TheVariants.{WriteSome,
 use Rattle.warm_concurrent.specs.declared.call.ShardCall.TheVariants.{Change, PinZeroed}
 use Rattle.warm_concurrent.specs.declared.call.ShardCall.TheVariants.{ForgetPages, TakeIn}
 use Rattle.warm_concurrent.specs.declared.call.ShardCall.TheVariants.{CopyHistory, Retire}
+use Rattle.warm_concurrent.specs.declared.call.ShardCall.TheVariants.{FlushDevice, PinFilled}
+use Rattle.warm_concurrent.specs.declared.call.ShardCall.TheVariants.{WarmNext, WritePage}
 use Rattle.warm_concurrent.specs.ToldDevices.{IsTold}
 use Rattle.warm_concurrent.specs.declared.call.ShardReply.{ShardReply}
 use Rattle.warm_concurrent.specs.declared.call.ShardReply.TheVariants.{Done, Kept, Pinned, Bytes}
 use Rattle.warm_concurrent.specs.declared.call.ShardReply.TheVariants.{Page, Loaded, Sent, Answers}
 use Rattle.warm_concurrent.specs.declared.call.ShardReply.TheVariants.{Foreign, Pages, Portion}
 use Rattle.warm_concurrent.specs.declared.call.ShardReply.TheVariants.{Dirty, Refused, Looked}
-use Rattle.warm_concurrent.specs.declared.call.ShardReply.TheVariants.{Changed, Copied}
+use Rattle.warm_concurrent.specs.declared.call.ShardReply.TheVariants.{Changed, Copied, WasDirty}
 
 -- a shard: how many there are, its number, and its node
 pub record ShardState : Type 0 where
@@ -64,16 +71,22 @@ no_state = shard_over 0 0 no_shard
 
 -- Calls and replies
 
--- What a node does in one step: a call; to write back all pages, some, or all with a flush; a pin of
--- a page that gets zeros; to forget the pages of a device from a number on; to take entries in, at
--- the later horizon; to send the entries of these buckets, or what is new in a bucket since a time,
--- after a page; to copy its history; or to replace a device with another.
+-- What a node does in one step: a call; to write back all pages, some, one, or all with a flush; to
+-- write back those of a device, and flush it; a pin of a page that gets zeros, or that gets these
+-- bytes; to name the page that a warm-up step would load; to forget the pages of a device from a
+-- number on; to take entries in, at the later horizon; to send the entries of these buckets, or what
+-- is new in a bucket since a time, after a page; to copy its history; or to replace a device with
+-- another.
 pub data Work : Type 0 where
   calling : Call → Work
   writing_pages : Work
   writing_some : ℕ → Work
+  writing_page : PageId → Work
   writing_back : Work
+  flushing : ℕ → Work
   zeroing : PageId → Work
+  filling : PageId → List ℕ → Work
+  naming_next : Work
   forgetting : ℕ → ℕ → Work
   taking_in : ℕ → List Entry → Work
   answering : ℕ → Work
@@ -99,11 +112,13 @@ asked_of (Raise time) = of_node (node_call.Horizon time)
 asked_of (TakeIn horizon entries) = doing (taking_in horizon entries)
 asked_of (Pin page) = of_node (node_call.Pin page)
 asked_of (PinZeroed page) = doing (zeroing page)
+asked_of (PinFilled page bytes) = doing (filling page bytes.numbers)
 asked_of (Unpin slot) = of_node (node_call.Unpin slot)
 asked_of (Read slot at len) = of_node (node_call.Read slot at len)
 asked_of (Write slot at bytes) = of_node (node_call.Write slot at bytes)
 asked_of Victim = of_node node_call.Victim
 asked_of WarmStep = of_node node_call.WarmStep
+asked_of WarmNext = doing naming_next
 asked_of (WarmList n) = of_node (node_call.WarmList n)
 asked_of Offer = of_node node_call.Offer
 asked_of (Send bucket after) = of_node (node_call.Send bucket after)
@@ -112,6 +127,8 @@ asked_of (Answer request) = doing (answering request)
 asked_of CopyHistory = doing copying
 asked_of WritePages = doing writing_pages
 asked_of (WriteSome limit) = doing (writing_some limit)
+asked_of (WritePage page) = doing (writing_page page)
+asked_of (FlushDevice dev) = doing (flushing dev)
 asked_of WriteBack = doing writing_back
 asked_of (ForgetPages dev from) = doing (forgetting dev from)
 asked_of (Retire dev device) = doing (retiring dev device)
@@ -131,6 +148,7 @@ node_reply_of (Sent message) = Some (node_reply.Sent message)
 node_reply_of (Answers messages) = Some (node_reply.Answers messages)
 node_reply_of (Refused why) = Some (node_reply.Refused why)
 node_reply_of (Dirty left) = None
+node_reply_of (WasDirty was_dirty) = None
 node_reply_of (Portion message more) = None
 node_reply_of (Copied history) = None
 node_reply_of (Looked slot bytes) = None
@@ -152,6 +170,8 @@ IsOwn count number (Absorb batch) = All (λ r. shard_of count r.page ≡ number)
 IsOwn count number (TakeIn horizon entries) = All (λ e. shard_of count e.page ≡ number) entries
 IsOwn count number (Pin page) = shard_of count page ≡ number
 IsOwn count number (PinZeroed page) = shard_of count page ≡ number
+IsOwn count number (PinFilled page bytes) = shard_of count page ≡ number
+IsOwn count number (WritePage page) = shard_of count page ≡ number
 IsOwn count number (Answer request) = AreOwnBuckets count number request
 IsOwn count number (Look page) = shard_of count page ≡ number
 IsOwn count number (Change page) = shard_of count page ≡ number
@@ -185,6 +205,22 @@ WriteSomeStep old limit (Refused why) new = NodeWriteBackFails old why new
     × SomeFails limit old.pool new.pool
 WriteSomeStep old limit reply new = ⊥
 
+-- whether the page was dirty, and is now written; or its write failed
+abbrev pub WritePageStep : NodeState → PageId → ShardReply → NodeState → Type 0
+WritePageStep old page (WasDirty was_dirty) new = KeepsKnown old new
+    × WritesPageBack page old.pool was_dirty new.pool
+WritePageStep old page (Refused why) new = KeepsKnown old new
+    × OfPool (λ fault. WritePageFails page old.pool fault new.pool) why
+WritePageStep old page reply new = ⊥
+
+-- no page of the device is dirty, and it is not unflushed; or there is no such device, or a call of
+-- it failed
+abbrev pub FlushDeviceStep : NodeState → ℕ → ShardReply → NodeState → Type 0
+FlushDeviceStep old dev Done new = KeepsKnown old new × SettlesDevice dev old.pool new.pool
+FlushDeviceStep old dev (Refused why) new = KeepsKnown old new
+    × OfPool (λ fault. FlushDeviceFails dev old.pool fault new.pool) why
+FlushDeviceStep old dev reply new = ⊥
+
 -- no page is dirty, and no device is unflushed; or a write or a flush failed
 abbrev pub WriteBackStep : NodeState → ShardReply → NodeState → Type 0
 WriteBackStep old Done new = SameView old new × IsSettled new.pool
@@ -202,6 +238,27 @@ PinZeroedStep old page (Refused why) new = KeepsKnown old new × KeepsFrames old
     (view_of new.pool)) why
     × OfPool (λ fault. LeavesUnread old.history old.pool fault new.pool) why
 PinZeroedStep old page reply new = ⊥
+
+-- A pin, with these bytes for a page that is in no frame. They are as many as a page has; else it is
+-- refused, and nothing has changed. A call that brought no bytes is refused as if no memory were
+-- left.
+abbrev pub PinFilledStep : NodeState → PageId → List ℕ → ShardReply → NodeState → Type 0
+PinFilledStep old page bytes (Pinned slot) new = (length bytes ≡ old.pool.page_size)
+    × Goes old (node_call.Pin page) (node_reply.Pinned slot) new
+    × TakesFilled old.pool page bytes slot new.pool
+PinFilledStep old page bytes (Refused (Pool SizeDiffers)) new =
+    (length bytes ≢ old.pool.page_size) × (new ≡ old)
+PinFilledStep old page bytes (Refused (Pool fault)) new = (length bytes ≡ old.pool.page_size)
+    × Goes old (node_call.Pin page) (node_reply.Refused (Pool fault)) new
+    × UnreadPinFails old.history page old.pool fault new.pool
+PinFilledStep old page bytes (Refused Memory) new = new ≡ old
+PinFilledStep old page bytes reply new = ⊥
+
+-- the page that the next warm-up step would load, if there is one
+abbrev pub WarmNextStep : NodeState → ShardReply → NodeState → Type 0
+WarmNextStep old (Page page) new = IsNextWarm (node_view old) page × (new ≡ old)
+WarmNextStep old (Refused why) new = (why ≡ Memory) × (new ≡ old)
+WarmNextStep old reply new = ⊥
 
 -- the pages of a device from a number on are forgotten, or it is refused
 abbrev pub ForgetPagesStep : NodeState → ℕ → ℕ → ShardReply → NodeState → Type 0
@@ -258,8 +315,12 @@ abbrev pub NodeStep : NodeState → Work → ShardReply → NodeState → Type 0
 NodeStep old (calling call) reply new = CallGoes old call (node_reply_of reply) new
 NodeStep old writing_pages reply new = WritePagesStep old reply new
 NodeStep old (writing_some limit) reply new = WriteSomeStep old limit reply new
+NodeStep old (writing_page page) reply new = WritePageStep old page reply new
+NodeStep old (flushing dev) reply new = FlushDeviceStep old dev reply new
 NodeStep old writing_back reply new = WriteBackStep old reply new
 NodeStep old (zeroing page) reply new = PinZeroedStep old page reply new
+NodeStep old (filling page bytes) reply new = PinFilledStep old page bytes reply new
+NodeStep old naming_next reply new = WarmNextStep old reply new
 NodeStep old (forgetting dev from) reply new = ForgetPagesStep old dev from reply new
 NodeStep old (taking_in horizon entries) reply new = TakeInStep old horizon entries reply new
 NodeStep old (answering request) reply new = AnswerStep old request reply new

@@ -3,7 +3,9 @@ use Rattle.std.specs.Prelude.{◌≡◌, ◌≢◌, ◌⊎◌, ℕ, ◌<◌, ◌
 use Rattle.std.specs.Prelude.{slice_index_or}
 use Rattle.std.specs.Global.{Vec}
 use Rattle.warm_stamps.specs.declared.Reference.{Reference}
+use Rattle.warm_history.specs.Histories.{HistoryView, entries_of}
 use Rattle.warm_frames.specs.declared.message.Message.{Message}
+use Rattle.warm_frames.specs.declared.message.Message.TheVariants.{Entries}
 use Rattle.warm_frames.specs.Limits.{entries_in, horizon_in}
 use Rattle.warm_gossip.specs.declared.fault.NodeFault.TheVariants.{Memory}
 use Rattle.warm_shards.specs.Parts.{part_of_entries}
@@ -80,6 +82,17 @@ TakeFails message k why old new = (mid : List ShardPass) × (k < length old)
     × TakesFirst message k old mid
     × (((why ≡ Node Memory) × (new ≡ mid))
     ⊎ CallFails mid k (part_call (length old) message k) why new)
+
+-- the message that would bring all that a history says
+abbrev pub history_message : HistoryView → Message
+history_message h = Entries 0 h.horizon (entries_of h)
+
+-- the same of the parts of a history, as of the message that would bring it
+abbrev pub JoinsFirst : HistoryView → ℕ → List ShardPass → List ShardPass → Type 0
+JoinsFirst h k old new = TakesFirst (history_message h) k old new
+
+abbrev pub JoinFails : HistoryView → ℕ → SharedFault → List ShardPass → List ShardPass → Type 0
+JoinFails h k why old new = TakeFails (history_message h) k why old new
 
 -- these are the parts of a batch, of each shard its own
 pub record ArePartsOf (shards : ℕ) (batch : List Reference) (parts : List (Vec Reference)) : Type 0 where

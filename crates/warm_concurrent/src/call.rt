@@ -3,10 +3,11 @@
 
 use crate::copying::BoxedHistory;
 use boxcar::tag::Tag;
-use warm_frames::{BoxedMessage, EntryList, MessageList};
+use warm_frames::{BoxedMessage, MessageList};
 use warm_gossip::NodeFault;
+use warm_history::Entry;
 use warm_pool::Slot;
-use warm_stamps::{Bucket, BucketSet, ByteList, PageId, PageList, RefList};
+use warm_stamps::{Bucket, BucketSet, ByteList, Items, PageId, PageList, RefList};
 
 /// A call of a shard: a call of its node, what an engine asks of a node beside the calls, or one
 /// that pins a page, uses its bytes where they lie, and unpins it.
@@ -21,12 +22,20 @@ pub enum ShardCall {
         /// The time before which all stamps are forgotten.
         horizon: u64,
         /// The entries.
-        entries: EntryList,
+        entries: Items<Entry>,
     },
     /// Pin a page of the shard, and load it where it isn't resident.
     Pin(PageId),
     /// Pin a page of the shard, and fill it with zeros. It isn't read.
     PinZeroed(PageId),
+    /// Pin a page of the shard, with bytes that are given in place of a read. A value of this call
+    /// brings no bytes, and is refused: [`crate::SharedShards::pin_filled`] brings some.
+    PinFilled {
+        /// The page.
+        page: PageId,
+        /// The bytes, which exist here only in contracts.
+        bytes: Tag,
+    },
     /// Remove a pin from the slot's page.
     Unpin(Slot),
     /// Give bytes of the slot's page.
@@ -51,6 +60,8 @@ pub enum ShardCall {
     Victim,
     /// Load the hottest page of the shard that is not resident.
     WarmStep,
+    /// Name the page that the next warm-up step would load.
+    WarmNext,
     /// List this many of the hottest pages of the shard, or all where there are fewer.
     WarmList(usize),
     /// Give the digests of all buckets. Those of other shards' buckets are of no entry.
@@ -80,6 +91,10 @@ pub enum ShardCall {
     WritePages,
     /// Write back at most this many dirty pages of the shard. No device is flushed.
     WriteSome(usize),
+    /// Write back a page of the shard, where it is dirty. No device is flushed.
+    WritePage(PageId),
+    /// Write back the dirty pages of a device of the shard, and flush it.
+    FlushDevice(u16),
     /// Write back the dirty pages of the shard, and flush its unflushed devices.
     WriteBack,
     /// Evict the shard's pages of a device from a number on, and do not write them.
@@ -112,11 +127,13 @@ pub enum ShardReply {
     Kept(u64),
     /// How many pages of the shard are dirty.
     Dirty(usize),
+    /// Whether the page was dirty.
+    WasDirty(bool),
     /// The slot of the pinned page.
     Pinned(Slot),
     /// The requested bytes.
     Bytes(ByteList),
-    /// The page that would be evicted, if there is one.
+    /// The page that would be evicted, or loaded next, if there is one.
     Page(Option<PageId>),
     /// The page that was loaded, if any.
     Loaded(Option<PageId>),

@@ -7,7 +7,6 @@ ghost use Rattle.warm_concurrent.specs.Gossip.{CompareFails, Compares, DigestsSt
 ghost use Rattle.warm_concurrent.specs.Gossip.{RequestStops, ShardsReceive, ShardsTakeDigests};
 ghost use Rattle.warm_concurrent.specs.Gossip.{ShardsTakeRequest};
 ghost use Rattle.warm_concurrent.specs.ShardSteps.{shard_of_bucket};
-ghost use Rattle.warm_concurrent.specs.Whole.{TakeFails, TakesFirst};
 ghost use Rattle.warm_concurrent.specs.declared.call.ShardCall.TheVariants.{Send, SendSince};
 ghost use Rattle.warm_concurrent.specs.declared.call.ShardReply.TheVariants.{Portion, Sent};
 
@@ -15,17 +14,16 @@ use crate::answering::{Offered, answer_all, gather};
 use crate::call::{ShardCall, ShardReply};
 use crate::fault::SharedFault;
 use crate::history_calls::{Stopped, raise_all};
-use crate::pool_calls::do_in;
+use crate::joining::take_parts;
 use crate::shard::Shard;
 use crate::shared::{Attached, SharedShards, call_shard};
 use std::alloc::{AllocError, Global};
 use std::sync::Wait;
 use warm_devices::PageDevice;
 use warm_digest::differing;
-use warm_frames::{BoxedMessage, DigestTable, EntryList, Message, MessageList};
+use warm_frames::{BoxedMessage, DigestTable, Message, MessageList};
 use warm_gossip::NodeFault;
 use warm_peer::SentPortion;
-use warm_shards::entries_for;
 use warm_stamps::{Bucket, BucketSet, PageId};
 use warm_turn::{Pass, Turn};
 
@@ -44,40 +42,6 @@ pub enum NotReceived {
     /// All shards have the horizon of the digests or the request. The answers of the shards before
     /// this one were taken. Nothing else has changed.
     Answering(Stopped),
-}
-
-// Each shard takes in its part of a message, in one turn, in the order of the shards.
-fn take_parts<D: PageDevice + Send, R: Wait>(
-    rt: &R,
-    alloc: Global,
-    turns: &Vec<Turn<Shard<D>>>,
-    passes: &mut Vec<Pass<Shard<D>>>,
-    message: &Message,
-) -> Result<(), Stopped>
-    requires turns { AreTurns turns.now.items }
-    requires passes { AreOf turns.now.items passes.old.items }
-    ensures passes { AreOf turns.now.items passes.new.items }
-    ensures taken { OnOk result (TakesFirst message.now (length turns.now.items)
-        passes.old.items passes.new.items) }
-    ensures stopped { IfErr result (λ at. TakeFails message.now at.shard at.fault
-        passes.old.items passes.new.items) }
-{
-    let count = turns.len();
-    let horizon = message.horizon();
-    for shard in 0..count {
-        let Ok(part) = entries_for(alloc, message, count, shard) else {
-            return Err(Stopped {
-                fault: SharedFault::Node(NodeFault::Memory),
-                shard,
-            });
-        };
-        let entries = EntryList::holding(part);
-        let call = ShardCall::TakeIn { horizon, entries };
-        if let Err(fault) = do_in(rt, turns, passes, shard, call) {
-            return Err(Stopped { fault, shard });
-        }
-    }
-    Ok(())
 }
 
 // Sends the first entries of a bucket of a shard.
@@ -365,9 +329,14 @@ impl<D: PageDevice + Send> SharedShards<D> {
         ensures pins { attached.new.pins ≡ attached.old.pins }
     {
         match message {
-            Message::Entries { .. } => {
+            Message::Entries {
+                horizon,
+                entries,
+                ..
+            } => {
                 let passes = &mut attached.passes;
-                if let Err(at) = take_parts(rt, alloc, &self.turns, passes, message) {
+                let entries = entries.as_slice();
+                if let Err(at) = take_parts(rt, alloc, &self.turns, passes, *horizon, entries) {
                     return Err(NotReceived::Taking(at));
                 }
                 Ok(MessageList::of(Vec::new(alloc)))

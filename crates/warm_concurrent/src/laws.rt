@@ -16,8 +16,9 @@ use warm_devices::PageDevice;
 
 /// A legal list of calls of a shard is a legal list of steps of its node: of its calls, and of what
 /// it is asked beside them. That is to write back, of which a caller sees at most a count of
-/// failures, to pin pages that get zeros, to forget pages, to replace devices, to take entries in,
-/// and to give what is in its history.
+/// failures, to pin pages that get zeros, or bytes that were read before, to name the next page of
+/// a warm-up, to forget pages, to replace devices, to take entries in, and to give what is in its
+/// history.
 pub fn calls_are_a_nodes()
     ensures { CallsAreANodes }
 {}
@@ -33,10 +34,11 @@ pub fn shards_are_of_given()
 {}
 
 /// What a thread's call gives the shards: just the references of the batch that it absorbs, just the
-/// horizon that it raises, just both of the message that it receives. One that stops at a shard
-/// gives just the parts of the shards before, and any other call nothing. So two threads absorb a
-/// batch each, one is detached into the other, which closes the shards: all nodes come back, and
-/// together stand for what they opened with and both batches, and for nothing else.
+/// horizon that it raises, just both of the message that it receives, or of the history that it
+/// joins. One that stops at a shard gives just the parts of the shards before, and any other call
+/// nothing. So two threads absorb a batch each, one is detached into the other, which closes the
+/// shards: all nodes come back, and together stand for what they opened with and both batches, and
+/// for nothing else.
 pub fn threads_give()
     ensures given { ThreadsGive }
     ensures two { TwoThreadsAreHeld }
@@ -70,13 +72,14 @@ pub fn all_nodes_come_back()
     ensures { NodesComeBack }
 {}
 
-/// The pins of a shard's pool are those with which it opened, one more for each `Pin` and `PinZeroed`
-/// that it answered `Pinned`, and one less for each `Unpin` that it answered `Done`, whichever
-/// threads made these calls. The count of a thread is that of its calls, and of those of the threads
-/// that were detached into it. So if one thread is left and closes the shards, their nodes together
-/// have the pins with which they opened, and as many as that thread counts. [`crate::SharedShards::close`]
-/// refuses it unless it counts none. So two threads pin a page each, each unpins what the other
-/// pinned, one is detached into the other, which closes the shards: no page is pinned.
+/// The pins of a shard's pool are those with which it opened, one more for each pin (`Pin`,
+/// `PinZeroed`, `PinFilled`) that it answered `Pinned`, and one less for each `Unpin` that it
+/// answered `Done`, whichever threads made these calls. The count of a thread is that of its calls,
+/// and of those of the threads that were detached into it. So if one thread is left and closes the
+/// shards, their nodes together have the pins with which they opened, and as many as that thread
+/// counts. [`crate::SharedShards::close`] refuses it unless it counts none. So two threads pin a
+/// page each, each unpins what the other pinned, one is detached into the other, which closes the
+/// shards: no page is pinned.
 pub fn pins_are_counted()
     ensures shard { PinsAreGiven }
     ensures threads { PinsAreCounted }

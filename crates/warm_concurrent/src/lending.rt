@@ -18,7 +18,7 @@ impl<'a> Names<&'a [u8]> for OfSlice {
 }
 
 // The bytes, as contracts see them.
-fn tag_of(bytes: &[u8]) -> Tag
+pub(crate) fn tag_of(bytes: &[u8]) -> Tag
     ensures { result.numbers ≡ bytes.now }
 {
     Tag::of::<&[u8], OfSlice>(&bytes)

@@ -6,8 +6,8 @@ ghost use Rattle.warm_concurrent.specs.Attached.{AreOf, AreTurns};
 ghost use Rattle.warm_concurrent.specs.Clauses.{CallEnds, SlotCallEnds, shard_done};
 ghost use Rattle.warm_concurrent.specs.Clauses.{IsDoneCall};
 ghost use Rattle.warm_concurrent.specs.declared.call.ShardCall.TheVariants.{Pin, Read, Unpin};
-ghost use Rattle.warm_concurrent.specs.declared.call.ShardCall.TheVariants.{Victim, WarmStep};
-ghost use Rattle.warm_concurrent.specs.declared.call.ShardCall.TheVariants.{Write};
+ghost use Rattle.warm_concurrent.specs.declared.call.ShardCall.TheVariants.{Victim, WarmNext};
+ghost use Rattle.warm_concurrent.specs.declared.call.ShardCall.TheVariants.{WarmStep, Write};
 ghost use Rattle.warm_concurrent.specs.declared.call.ShardReply.TheVariants.{Bytes, Loaded, Page};
 ghost use Rattle.warm_concurrent.specs.declared.call.ShardReply.TheVariants.{Pinned};
 ghost use Rattle.warm_concurrent.specs.declared.fault.SharedFault.TheVariants.{NoPins, Node};
@@ -182,6 +182,26 @@ fn warm_step_in<D: PageDevice + Send, R: Wait>(
 {
     match call_shard(rt, turns, passes, shard, ShardCall::WarmStep)? {
         ShardReply::Loaded(page) => Ok(page),
+        ShardReply::Refused(why) => Err(SharedFault::Node(why)),
+        _ => unreachable!(),
+    }
+}
+
+// Names the page that the next warm-up step of a shard would load.
+fn warm_next_in<D: PageDevice + Send, R: Wait>(
+    rt: &R,
+    turns: &Vec<Turn<Shard<D>>>,
+    passes: &mut Vec<Pass<Shard<D>>>,
+    shard: usize,
+) -> Result<Option<PageId>, SharedFault>
+    requires turns { AreTurns turns.now.items }
+    requires passes { AreOf turns.now.items passes.old.items }
+    requires there { shard < length turns.now.items }
+    ensures passes { AreOf turns.now.items passes.new.items }
+    ensures ends { CallEnds passes.old.items shard WarmNext Page result passes.new.items }
+{
+    match call_shard(rt, turns, passes, shard, ShardCall::WarmNext)? {
+        ShardReply::Page(page) => Ok(page),
         ShardReply::Refused(why) => Err(SharedFault::Node(why)),
         _ => unreachable!(),
     }
@@ -388,6 +408,32 @@ impl<D: PageDevice + Send> SharedShards<D> {
         ensures pins { attached.new.pins ≡ attached.old.pins }
     {
         let page = warm_step_in(rt, &self.turns, &mut attached.passes, shard)?;
+        Ok(page)
+    }
+
+    /// The page that [`SharedShards::warm_step`] of the shard would load now; `None` where there is
+    /// none: one turn of the shard, in which the call `WarmNext` is answered. Nothing is loaded. So
+    /// a thread warms a shard up with no turn held as it reads: it reads this page, pins it by
+    /// [`SharedShards::pin_filled`], and removes the pin. That is the warm-up step, unless another
+    /// call of the shard came in between.
+    ///
+    /// # Errors
+    /// `Node(Memory)`: an allocation failed in the shard. `TurnsSpent`. Nothing has changed in any
+    /// shard.
+    pub fn warm_next<R: Wait>(
+        &self,
+        rt: &R,
+        attached: &mut Attached<D>,
+        shard: usize,
+    ) -> Result<Option<PageId>, SharedFault>
+        requires passes { AreOf self.now attached.old.passes }
+        requires there { shard < length self.now }
+        ensures attached { AreOf self.now attached.new.passes }
+        ensures ends { CallEnds attached.old.passes shard WarmNext Page result
+            attached.new.passes }
+        ensures pins { attached.new.pins ≡ attached.old.pins }
+    {
+        let page = warm_next_in(rt, &self.turns, &mut attached.passes, shard)?;
         Ok(page)
     }
 }

@@ -9,6 +9,7 @@ ghost use Rattle.warm_concurrent.specs.declared.call.ShardCall.TheVariants.{Offe
 ghost use Rattle.warm_concurrent.specs.declared.call.ShardCall.TheVariants.{PinZeroed, Send};
 ghost use Rattle.warm_concurrent.specs.declared.call.ShardCall.TheVariants.{SendSince, TakeIn};
 ghost use Rattle.warm_concurrent.specs.declared.call.ShardCall.TheVariants.{CopyHistory};
+ghost use Rattle.warm_concurrent.specs.declared.call.ShardCall.TheVariants.{FlushDevice, WritePage};
 ghost use Rattle.warm_concurrent.specs.declared.call.ShardCall.TheVariants.{Unpin, Write};
 ghost use Rattle.warm_concurrent.specs.declared.call.ShardCall.TheVariants.{WritePages, WriteSome};
 
@@ -18,12 +19,13 @@ use crate::lending::{Left, Shown, change_in, look_in};
 use std::alloc::{AllocError, Global};
 use std::marker::Model;
 use warm_devices::PageDevice;
-use warm_frames::{BoxedMessage, EntryList, Message, MessageList};
+use warm_frames::{BoxedMessage, Message, MessageList};
 use warm_gossip::{Node, NodeFault};
+use warm_history::Entry;
 use warm_peer::SentPortion;
 use warm_pool::{NamesPage, Slot};
 use warm_shards::shard_of;
-use warm_stamps::{BUCKETS, Bucket, BucketSet, ByteList, PageId};
+use warm_stamps::{BUCKETS, Bucket, BucketSet, ByteList, Items, PageId};
 use warm_turn::Machine;
 
 /// One shard of a replica: a node, how many shards there are, and which of them it is.
@@ -129,6 +131,8 @@ fn is_own(count: usize, number: usize, call: &ShardCall) -> bool
         ShardCall::TakeIn { entries, .. } => are_own(count, number, entries.as_slice()),
         ShardCall::Pin(page)
         | ShardCall::PinZeroed(page)
+        | ShardCall::PinFilled { page, .. }
+        | ShardCall::WritePage(page)
         | ShardCall::Look(page)
         | ShardCall::Change(page) => is_own_page(count, number, *page),
         ShardCall::Answer(request) => are_own_buckets(count, number, *request),
@@ -212,7 +216,7 @@ fn answered<D: PageDevice>(
 fn taken_in<D: PageDevice>(
     node: &mut Node<D>,
     horizon: u64,
-    entries: EntryList,
+    entries: Items<Entry>,
 ) -> Result<ShardReply, NodeFault>
     ensures { AnsweredAs node.old (TakeIn horizon entries) result node.new }
 {
@@ -246,6 +250,22 @@ fn write_some<D: PageDevice>(node: &mut Node<D>, limit: usize) -> Result<ShardRe
     Ok(ShardReply::Dirty(left))
 }
 
+// Writes back a page of a node, where it is dirty, and says whether it was. No device is flushed.
+fn write_page<D: PageDevice>(node: &mut Node<D>, page: PageId) -> Result<ShardReply, NodeFault>
+    ensures { AnsweredAs node.old (WritePage page) result node.new }
+{
+    let was_dirty = node.write_back_page(page)?;
+    Ok(ShardReply::WasDirty(was_dirty))
+}
+
+// Writes back the dirty pages of a device of a node, and flushes it.
+fn flushed<D: PageDevice>(node: &mut Node<D>, dev: u16) -> Result<ShardReply, NodeFault>
+    ensures { AnsweredAs node.old (FlushDevice dev) result node.new }
+{
+    node.flush_device(dev)?;
+    Ok(ShardReply::Done)
+}
+
 // Has the node answer the call, or returns why it is refused.
 //
 // It is inlined at each place where a shard is called, as is all between: there the kind of the call
@@ -267,11 +287,13 @@ fn answer<D: PageDevice>(
         ShardCall::TakeIn { horizon, entries } => taken_in(node, horizon, entries),
         ShardCall::Pin(page) => Ok(ShardReply::Pinned(node.pin(page)?)),
         ShardCall::PinZeroed(page) => zeroed(node, page),
+        ShardCall::PinFilled { .. } => Err(NodeFault::Memory),
         ShardCall::Unpin(slot) => unpinned(node, slot),
         ShardCall::Read { slot, at, len } => Ok(ShardReply::Bytes(node.read(slot, at, len)?)),
         ShardCall::Write { slot, at, bytes } => written(node, slot, at, bytes),
         ShardCall::Victim => Ok(ShardReply::Page(node.victim())),
         ShardCall::WarmStep => Ok(ShardReply::Loaded(node.warm_step()?)),
+        ShardCall::WarmNext => Ok(ShardReply::Page(node.warm_next()?)),
         ShardCall::WarmList(n) => Ok(ShardReply::Pages(node.warm_list(n)?)),
         ShardCall::Offer => offered(alloc, node),
         ShardCall::Send { bucket, after } => sent(alloc, node, bucket, after),
@@ -284,6 +306,8 @@ fn answer<D: PageDevice>(
         ShardCall::CopyHistory => copied(alloc, node),
         ShardCall::WritePages => write_pages(node),
         ShardCall::WriteSome(limit) => write_some(node, limit),
+        ShardCall::WritePage(page) => write_page(node, page),
+        ShardCall::FlushDevice(dev) => flushed(node, dev),
         ShardCall::WriteBack => {
             node.write_back()?;
             Ok(ShardReply::Done)

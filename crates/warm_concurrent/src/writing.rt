@@ -1,12 +1,14 @@
 //! Writing back: each shard writes its pages, and then each flushes; or one shard writes some.
 ghost use Rattle.std.specs.Prelude.{◌≡◌, ◌<◌, length, IfErr, OnOk};
 ghost use Rattle.warm_concurrent.specs.Attached.{AreOf, AreTurns};
-ghost use Rattle.warm_concurrent.specs.Clauses.{CallEnds};
+ghost use Rattle.warm_shards.specs.Shards.{shard_of};
+ghost use Rattle.warm_concurrent.specs.Clauses.{CallEnds, shard_done};
 ghost use Rattle.warm_concurrent.specs.Whole.{DoneFails, DoneFirst, ShardsWriteBack};
 ghost use Rattle.warm_concurrent.specs.Whole.{WriteBackStopsAt};
 ghost use Rattle.warm_concurrent.specs.declared.call.ShardCall.TheVariants.{WriteBack, WritePages};
+ghost use Rattle.warm_concurrent.specs.declared.call.ShardCall.TheVariants.{FlushDevice, WritePage};
 ghost use Rattle.warm_concurrent.specs.declared.call.ShardCall.TheVariants.{WriteSome};
-ghost use Rattle.warm_concurrent.specs.declared.call.ShardReply.TheVariants.{Dirty};
+ghost use Rattle.warm_concurrent.specs.declared.call.ShardReply.TheVariants.{Dirty, WasDirty};
 
 use crate::call::{ShardCall, ShardReply};
 use crate::fault::SharedFault;
@@ -16,6 +18,8 @@ use crate::shard::Shard;
 use crate::shared::{Attached, SharedShards, call_shard};
 use std::sync::Wait;
 use warm_devices::PageDevice;
+use warm_shards::shard_of;
+use warm_stamps::PageId;
 use warm_turn::{Pass, Turn};
 
 /// Where writing back stopped, and why.
@@ -97,6 +101,29 @@ fn write_some_in<D: PageDevice + Send, R: Wait>(
     }
 }
 
+// Writes back a page of a shard, where it is dirty.
+fn write_page_in<D: PageDevice + Send, R: Wait>(
+    rt: &R,
+    turns: &Vec<Turn<Shard<D>>>,
+    passes: &mut Vec<Pass<Shard<D>>>,
+    shard: usize,
+    page: PageId,
+) -> Result<bool, SharedFault>
+    requires turns { AreTurns turns.now.items }
+    requires passes { AreOf turns.now.items passes.old.items }
+    requires there { shard < length turns.now.items }
+    requires own { shard_of (length turns.now.items) page ≡ shard }
+    ensures passes { AreOf turns.now.items passes.new.items }
+    ensures ends { CallEnds passes.old.items shard (WritePage page) WasDirty result
+        passes.new.items }
+{
+    match call_shard(rt, turns, passes, shard, ShardCall::WritePage(page))? {
+        ShardReply::WasDirty(was_dirty) => Ok(was_dirty),
+        ShardReply::Refused(why) => Err(SharedFault::Node(why)),
+        _ => unreachable!(),
+    }
+}
+
 impl<D: PageDevice + Send> SharedShards<D> {
     /// Writes back the dirty pages of all shards, each in one turn of its shard, and then flushes
     /// the unflushed devices of each, each in one more. So devices that share a file can make it
@@ -148,5 +175,57 @@ impl<D: PageDevice + Send> SharedShards<D> {
     {
         let left = write_some_in(rt, &self.turns, &mut attached.passes, shard, limit)?;
         Ok(left)
+    }
+
+    /// Writes back one page, where it is resident and dirty, and returns whether it was: one turn of
+    /// the page's shard, in which the call `WritePage` is answered. No device is flushed.
+    /// Allocation-free.
+    ///
+    /// # Errors
+    /// `Node(Pool(Fault))`: the write failed, and its device's count of failures has increased. The
+    /// page is dirty as before, and no frame has changed. `TurnsSpent`: nothing has changed.
+    pub fn write_back_page<R: Wait>(
+        &self,
+        rt: &R,
+        attached: &mut Attached<D>,
+        page: PageId,
+    ) -> Result<bool, SharedFault>
+        requires { AreOf self.now attached.old.passes }
+        ensures attached { AreOf self.now attached.new.passes }
+        ensures ends { CallEnds attached.old.passes (shard_of (length self.now) page)
+            (WritePage page) WasDirty result attached.new.passes }
+        ensures pins { attached.new.pins ≡ attached.old.pins }
+    {
+        let shard = shard_of(self.turns.len(), page);
+        let was_dirty = write_page_in(rt, &self.turns, &mut attached.passes, shard, page)?;
+        Ok(was_dirty)
+    }
+
+    /// Writes back the dirty pages of one device of a shard, and flushes it where it is unflushed:
+    /// one turn of the shard, in which the call `FlushDevice` is answered. Each shard has a device
+    /// of its own of this number. Allocation-free.
+    ///
+    /// # Errors
+    /// `Node(Pool(NoDevice))`: the shard has no device of this number; nothing has changed.
+    /// `Node(Pool(Fault))`: a write or the flush failed, and the device's count of failures has
+    /// increased. The pages written before it are clean, and all others dirty as before.
+    /// `TurnsSpent`: nothing has changed.
+    pub fn flush_device<R: Wait>(
+        &self,
+        rt: &R,
+        attached: &mut Attached<D>,
+        shard: usize,
+        dev: u16,
+    ) -> Result<(), SharedFault>
+        requires passes { AreOf self.now attached.old.passes }
+        requires there { shard < length self.now }
+        ensures attached { AreOf self.now attached.new.passes }
+        ensures ends { CallEnds attached.old.passes shard (FlushDevice dev) shard_done result
+            attached.new.passes }
+        ensures pins { attached.new.pins ≡ attached.old.pins }
+    {
+        let call = ShardCall::FlushDevice(dev);
+        do_in(rt, &self.turns, &mut attached.passes, shard, call)?;
+        Ok(())
     }
 }

@@ -75,6 +75,12 @@ pub(crate) fn rows<P: Print, R: Wait>(
     takes_none(rt, "unpin of shared shards")?;
     let unpinned = shared.unpin(waits, &mut thread, at);
     met.holds(unpinned.is_ok(), "an unpin of shared shards is refused")?;
+    takes_none(rt, "write_back_page of shared shards")?;
+    let was_dirty = shared.write_back_page(waits, &mut thread, page(1));
+    met.holds(was_dirty == Ok(true), "a page of zeros is not written back")?;
+    takes_none(rt, "flush_device of a shared shard")?;
+    let flushed = shared.flush_device(waits, &mut thread, 1, 0);
+    met.holds(flushed.is_ok(), "a device of a shared shard is not flushed")?;
     takes_none(rt, "write_back_some of a shared shard")?;
     let left = shared.write_back_some(waits, &mut thread, 1, 1);
     met.holds(left == Ok(0), "a shared shard's page is not written back")?;

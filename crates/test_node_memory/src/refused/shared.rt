@@ -8,7 +8,7 @@ use crate::refused::shards::{TwoShards, made};
 use std::alloc::Global;
 use std::sync::Wait;
 use test_kit::cases::{Ended, Met};
-use test_kit::{bucket, entry, once, page, references_to, replica};
+use test_kit::{bucket, entry, history_of_pages, once, page, references_to, replica};
 use warm_concurrent::{Attached, NotReceived, SharedFault, SharedShards, Sharing};
 use warm_devices::MemDevice;
 use warm_frames::{EntryList, Message};
@@ -175,6 +175,23 @@ fn read<R: Wait>(met: &mut Met, rt: &R, shared: &Shared, thread: &mut Thread) ->
     )
 }
 
+// Names the page that a shard's next warm-up step would load.
+fn next<R: Wait>(met: &mut Met, rt: &R, shared: &Shared, thread: &mut Thread) -> Result<(), Ended>
+    requires { AreOf shared.now thread.old.passes }
+    ensures { AreOf shared.now thread.new.passes }
+{
+    if shared.count() < 2 {
+        return Err(met.broken("two shards are shared"));
+    }
+    let mut next = shared.warm_next(rt, thread, 0);
+    if let Err(fault) = next {
+        met.refuse(fault == MEMORY, "a page is not named for memory alone")?;
+        next = shared.warm_next(rt, thread, 0);
+    }
+    let is_named = matches!(next, Ok(Some(_)));
+    met.holds(is_named, "the next page is refused again by shared shards")
+}
+
 // Lists the hottest pages of a shard.
 fn list<R: Wait>(met: &mut Met, rt: &R, shared: &Shared, thread: &mut Thread) -> Result<(), Ended>
     requires { AreOf shared.now thread.old.passes }
@@ -243,6 +260,33 @@ fn receive<R: Wait>(
     }
     let are_dropped = is_known_below(met, rt, shared, thread, 0)?;
     met.holds(are_dropped, "what is older than the horizon is dropped")
+}
+
+// A history of the pages 64 and 65, one of each shard, is joined. Where it is refused, the shards
+// before that one have taken theirs in.
+fn join<R: Wait>(
+    met: &mut Met,
+    rt: &R,
+    alloc: Global,
+    shared: &Shared,
+    thread: &mut Thread,
+) -> Result<(), Ended>
+    requires { AreOf shared.now thread.old.passes }
+    ensures { AreOf shared.now thread.new.passes }
+{
+    let other = history_of_pages(alloc, 64, 66, 30)?;
+    if let Err(at) = shared.join(rt, alloc, thread, &other) {
+        let is_part = is_known_below(met, rt, shared, thread, at.shard)?;
+        let is_refused = at.fault == MEMORY && at.shard < 2 && is_part;
+        met.refuse(
+            is_refused,
+            "the shards before the one named take a refused history in",
+        )?;
+        let again = shared.join(rt, alloc, thread, &other).is_ok();
+        met.holds(again, "a history is refused again by shared shards")?;
+    }
+    let are_known = is_known_below(met, rt, shared, thread, 2)?;
+    met.holds(are_known, "each shared shard has its part of a history")
 }
 
 // The digests of both shards are offered. A refused offer changes nothing.
@@ -347,9 +391,11 @@ pub(crate) fn rows<R: Wait>(met: &mut Met, rt: &R, alloc: Global) -> Result<(), 
     offer(met, rt, &shared, &mut thread)?;
     answer(met, rt, alloc, &shared, &mut thread, &digest(0))?;
     answer(met, rt, alloc, &shared, &mut thread, &request(0))?;
+    next(met, rt, &shared, &mut thread)?;
     read(met, rt, &shared, &mut thread)?;
     list(met, rt, &shared, &mut thread)?;
     publish(met, rt, &shared, &mut thread)?;
     receive(met, rt, alloc, &shared, &mut thread)?;
+    join(met, rt, alloc, &shared, &mut thread)?;
     close(met, alloc, shared, thread)
 }
