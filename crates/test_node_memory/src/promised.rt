@@ -49,9 +49,11 @@ pub(crate) fn play<P: Print, R: Wait>(
     let posts = Posts::new(alloc)?;
     let (shared, thread) = shared::opened(alloc)?;
     let other = memory(alloc, 4)?;
+    let mut into = Vec::new(alloc);
+    into.extend_from_slice(b"read")?;
     let (replica, worker, slot) = workers::opened(alloc)?;
     // from here on nothing is allocated
-    shared::rows(rt, met, waits, shared, thread, other)?;
+    shared::rows(rt, met, waits, shared, thread, other, into)?;
     workers::rows(rt, met, waits, replica, worker, slot)?;
     calls::rows(rt, met, &mut node, ByteList::of(bytes))?;
     sharded.rows(rt, met, alloc)?;

@@ -33,6 +33,10 @@ mod shared;
 #[cfg(test)]
 mod threads;
 #[cfg(test)]
+mod two_pins;
+#[cfg(test)]
+mod two_threads;
+#[cfg(test)]
 mod whole;
 #[cfg(test)]
 mod written_shared;

@@ -55,6 +55,36 @@ fn retired<P: Print, R: Wait>(
     met.holds(retired.is_ok(), "a shared shard's device is not retired")
 }
 
+// A page is changed where it lies, another is looked at, and a third, for which one of these leaves
+// its frame, is pinned, read and unpinned.
+fn looked_at<P: Print, R: Wait>(
+    rt: &P,
+    met: &mut Met,
+    waits: &R,
+    shared: &Shared,
+    thread: &mut Thread,
+    mut into: Vec<u8>,
+) -> Result<(), Ended>
+    requires { AreOf shared.now thread.old.passes }
+    ensures { AreOf shared.now thread.new.passes }
+{
+    takes_none(rt, "change of shared shards")?;
+    let changed = shared.change(waits, thread, page(2), |bytes: &mut [u8]| bytes.len());
+    met.holds(changed == Ok(16), "a change of shared shards is refused")?;
+    takes_none(rt, "look of shared shards")?;
+    let looked = shared.look(waits, thread, page(4), |bytes: &[u8]| bytes.len());
+    met.holds(looked == Ok(16), "a look of shared shards is refused")?;
+    takes_none(rt, "pin of shared shards")?;
+    let Ok(at) = shared.pin(waits, thread, page(6)) else {
+        return Err(met.broken("a pin of shared shards is refused"));
+    };
+    takes_none(rt, "read_into of shared shards")?;
+    let read = shared.read_into(waits, thread, at, 0, &mut into);
+    met.holds(read.is_ok(), "a read of shared shards is refused")?;
+    let unpinned = shared.unpin(waits, thread, at);
+    met.holds(unpinned.is_ok(), "a page that was read is not unpinned")
+}
+
 pub(crate) fn rows<P: Print, R: Wait>(
     rt: &P,
     met: &mut Met,
@@ -62,6 +92,7 @@ pub(crate) fn rows<P: Print, R: Wait>(
     shared: Shared,
     mut thread: Thread,
     device: MemDevice,
+    into: Vec<u8>,
 ) -> Result<(), Ended>
     requires { AreOf shared thread.passes }
 {
@@ -90,5 +121,6 @@ pub(crate) fn rows<P: Print, R: Wait>(
         forgotten.is_ok(),
         "pages of shared shards are not forgotten",
     )?;
-    retired(rt, met, waits, &shared, &mut thread, device)
+    retired(rt, met, waits, &shared, &mut thread, device)?;
+    looked_at(rt, met, waits, &shared, &mut thread, into)
 }
