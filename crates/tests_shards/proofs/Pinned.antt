@@ -1,5 +1,5 @@
 -- Two threads that unpin what the other pinned: from what each call ensured to the law.
-use Rattle.std.proofs.Common.{◌≡◌, inl, inr, ℕ, zero, suc, ◌<◌, ◌≤◌, ◌⊎◌, List, [], ◌∷◌, map, length, Result, Ok, refl, sym, ap, subst, ◌∙◌, arith}
+use Rattle.std.proofs.Common.{◌≡◌, inl, inr, ℕ, zero, suc, ◌<◌, ◌≤◌, ◌⊎◌, List, map, length, Result, Ok, sym, subst, arith}
 use Rattle.warm_turn.specs.declared.fault.Busy.{Busy}
 use Rattle.warm_gossip.specs.State.{NodeState}
 use Rattle.warm_pool.specs.declared.slot.Slot.{Slot}
@@ -10,9 +10,8 @@ use Rattle.warm_concurrent.specs.declared.call.ShardReply.{ShardReply}
 use Rattle.warm_concurrent.specs.declared.call.ShardReply.TheVariants.{Pinned}
 use Rattle.warm_concurrent.specs.Attached.{AreOf, ShardPass, ShardTurn}
 use Rattle.warm_concurrent.specs.Clauses.{AnsweredByShard, SlotCallEnds, shard_done}
-use Rattle.warm_concurrent.specs.Opening.{AreClosed, AreFirst, AreHalved, AreSplit, PassesAreJoined, openings, shards_from, shards_over}
-use Rattle.warm_concurrent.specs.Pins.{NoneIsPinned, TwoThreadsUnpin, opened_nodes}
-use Rattle.warm_concurrent.specs.ShardSteps.{ShardState}
+use Rattle.warm_concurrent.specs.Opening.{AreClosed, AreFirst, AreHalved, AreSplit, PassesAreJoined, openings, shards_over}
+use Rattle.warm_concurrent.specs.Pins.{NoneIsPinned, TwoThreadsUnpin}
 
 below : (a b : ℕ) → (a < b) ⊎ (b ≤ a)
 below zero zero = inr (omega arith)
@@ -29,22 +28,6 @@ answered old new i call reply given ends = elim (below i (length old)) [
   | inr le ↦ let no = (ends.1 le).0 in absurd (cc)
 ]
 
--- the nodes with which turns opened, where these were the shards over nodes
-nodes_over : (count i : ℕ) (ns : List NodeState)
-    → map (λ (s : ShardState). s.node) (shards_from count i ns) ≡ ns
-nodes_over count i [] = refl
-nodes_over count i (n ∷ ns) = ap (λ (ms : List NodeState). n ∷ ms) (nodes_over count (suc i) ns)
-
-of_openings : (turns : List ShardTurn)
-    → opened_nodes turns ≡ map (λ (s : ShardState). s.node) (openings turns)
-of_openings [] = refl
-of_openings (t ∷ ts) = ap (λ (ms : List NodeState). t.opening.node ∷ ms) (of_openings ts)
-
-opened_over : (turns : List ShardTurn) (nodes : List NodeState) → openings turns ≡ shards_over nodes
-    → opened_nodes turns ≡ nodes
-opened_over turns nodes opens =
-    of_openings turns ∙ ap (λ (ss : List ShardState). map (λ (s : ShardState). s.node) ss) opens ∙ nodes_over (length nodes) 0 nodes
-
 pub none_pinned : {T U : Type 0} (t : T) (u : U) → TwoThreadsUnpin → (opened : List NodeState)
     (turns : List ShardTurn) (first here there mine yours done other all : List ShardPass)
     (i j m n : ℕ) (p q : PageId) (a b : Slot) (results : List (Result NodeState Busy))
@@ -59,8 +42,8 @@ pub none_pinned : {T U : Type 0} (t : T) (u : U) → TwoThreadsUnpin → (opened
 none_pinned t u law opened turns first here there mine yours done other all i j m n p q a b results none opens start halved split mine_of yours_of i_is j_is pinned also unpinned back joined are closes =
     let gone = answered mine done j (Unpin b) shard_done t unpinned in
     let too = answered yours other i (Unpin a) shard_done u back in
-    law turns first here there mine yours done other all i j p q a b results
-    (subst NoneIsPinned (sym (opened_over turns opened opens)) none) start halved split
+    law opened turns first here there mine yours done other all i j p q a b results
+    opens none start halved split
     (omega (arith, too.0, yours_of.count)) (omega (arith, gone.0, mine_of.count))
     (subst (λ (k : ℕ). AnsweredByShard here k (Pin p) (Pinned a) mine) (sym i_is) pinned)
     (subst (λ (k : ℕ). AnsweredByShard there k (Pin q) (Pinned b) yours) (sym j_is) also)

@@ -38,6 +38,27 @@ fn retired<D: PageDevice + Send, R: Wait + Abort>(
     }
 }
 
+// Replaces a device of a shard, and gives the old one; or the fault and the new one.
+fn replaced<D: PageDevice + Send, R: Wait + Abort>(
+    rt: &R,
+    shared: &SharedShards<D>,
+    thread: &mut Attached<D>,
+    shard: usize,
+    dev: u16,
+    device: D,
+) -> Result<D, (SharedFault, D)>
+    requires { AreOf shared.now thread.old.passes }
+    ensures { AreOf shared.now thread.new.passes }
+{
+    if shard >= shared.count() {
+        panic!(rt; "there is such a shard")
+    }
+    match shared.replace(rt, thread, shard, dev, device) {
+        Ok(was) => Ok(was),
+        Err(NotRetired { fault, device }) => Err((fault, device)),
+    }
+}
+
 fn put(bytes: &mut [u8], byte: u8) {
     if let Some(first) = bytes.first_mut() {
         *first = byte;
@@ -192,4 +213,27 @@ fn a_page_that_is_not_written_keeps_the_device(rt: HostRuntime) {
     assert!(rt; seen_in(&rt, &shared, &mut first, 1) == Ok(7));
     assert!(rt; retired(&rt, &shared, &mut first, 1, 0, next).is_none());
     assert!(rt; seen_in(&rt, &shared, &mut first, 1) == Ok(0));
+}
+
+#[test]
+fn the_old_device_comes_back_with_what_was_written(rt: HostRuntime) {
+    let alloc = rt.alloc();
+    let (shared, mut first) = shared_of(&rt, alloc, 1, 2);
+    let mut second = more(&rt, alloc, &shared, &mut first);
+    assert!(rt; is_put(&rt, &shared, &mut first, 1, 7));
+    let next = memory(alloc, 4).expect(&rt, "memory for a device");
+    let was = replaced(&rt, &shared, &mut second, 1, 0, next);
+    let mut was = was.ok().expect(&rt, "no page is pinned");
+    assert!(rt; was.pages() == 256 && !was.waiting());
+    let mut bytes = [9; 16];
+    assert!(rt; was.page_size() == 16 && was.read(1, &mut bytes).is_ok() && bytes[0] == 7);
+    assert!(rt; seen_in(&rt, &shared, &mut first, 1) == Ok(0));
+    let at = shared.pin(&rt, &mut second, page(1));
+    let at = at.ok().expect(&rt, "page 1 is pinned");
+    let (fault, was) = replaced(&rt, &shared, &mut first, 1, 0, was)
+        .err()
+        .expect(&rt, "page 1 is pinned");
+    assert!(rt; fault == of_pool(PoolFault::Fixed) && was.pages() == 256);
+    assert!(rt; shared.unpin(&rt, &mut second, at).is_ok());
+    assert!(rt; shared.detach(&mut first, second).is_ok());
 }

@@ -1,17 +1,17 @@
 -- The pins that a close leaves.
 use Rattle.std.specs.List.{sum_by}
 use Rattle.std.proofs.Common.{◌≡◌, inl, inr, ℕ, suc, ◌+◌, ◌<◌, List, [], ◌∷◌, length, map, get_or, None, Result, Ok, refl, sym, ap, subst, ◌∙◌, arith}
-use Rattle.std.proofs.lemmas.List.{get_or-map, get_or_past, length-map}
+use Rattle.std.proofs.lemmas.List.{get_or_past, length-map}
 use Rattle.std.proofs.lemmas.List.Sums.{get_or-le-sum_by, sum_by-cons}
 use Rattle.warm_turn.specs.Shares.{IsWhole}
 use Rattle.warm_turn.specs.declared.fault.Busy.{Busy}
 use Rattle.warm_pool.specs.View.{FrameView, view_of}
 use Rattle.warm_gossip.specs.State.{NodeState}
 use Rattle.warm_shards.specs.Shards.{no_shard, shard_at}
-use Rattle.warm_concurrent.specs.Attached.{AreOf, AttachedView, Known, ShardPass, ShardTurn, known_of, no_turn, shard_pass, shard_turn}
-use Rattle.warm_concurrent.specs.Opening.{AreClosed, ClosesShard}
-use Rattle.warm_concurrent.specs.Pins.{ClosesUnpinned, IsCounted, NoneIsPinned, PinsComeBack, all_pins, calls_held, opened_nodes, pin_by, pins_in, pool_pins, unpin_by}
-use Rattle.warm_concurrent.proofs.Headline.{closed_node}
+use Rattle.warm_concurrent.specs.Attached.{AreOf, AttachedView, Known, ShardPass, ShardTurn, known_of, shard_pass, shard_turn}
+use Rattle.warm_concurrent.specs.Opening.{AreClosed, ClosesShard, openings, shards_over}
+use Rattle.warm_concurrent.specs.Pins.{ClosesUnpinned, IsCounted, NoneIsPinned, PinsComeBack, all_pins, calls_held, pin_by, pins_in, pool_pins, unpin_by}
+use Rattle.warm_concurrent.proofs.Headline.{closed_node, opened_node, turns_long}
 use Rattle.warm_concurrent.proofs.LawsHold.{below}
 use Rattle.warm_concurrent.proofs.LogPins.{log_total, total}
 use Rattle.warm_concurrent.specs.Rights.{HasWholeRight}
@@ -55,35 +55,33 @@ all_closed (n ∷ ns) (o ∷ os) (p ∷ ps) long also each =
     let rest = all_closed ns os ps (omega (arith, long)) (omega (arith, also)) (λ i lt. each (suc i) (omega (arith, lt))) in
     omega (arith, new, old, removed, given, first, rest)
 
--- the node with which the shard of this number opened
-opened_at : (turns : List ShardTurn) (i : ℕ) → i < length turns
-    → shard_at (opened_nodes turns) i ≡ (shard_turn turns i).opening.node
-opened_at turns i lt = get_or-map (λ t. t.opening.node) turns i no_turn no_shard lt
-
 -- where no frame without a page was pinned
-come_back : (turns : List ShardTurn) (thread : AttachedView) (nodes : List NodeState)
-    → ((i : ℕ) → i < length turns → IsFree (view_of (shard_turn turns i).opening.node.pool))
+come_back : (opened : List NodeState) (turns : List ShardTurn) (thread : AttachedView)
+    (nodes : List NodeState) → openings turns ≡ shards_over opened
+    → ((i : ℕ) → i < length opened → IsFree (view_of (shard_at opened i).pool))
     → AreOf turns thread.passes → IsCounted thread → HasWholeRight (length turns) thread.passes
     → AreClosed turns thread.passes (map (λ n. Ok n) nodes)
-    → all_pins nodes ≡ all_pins (opened_nodes turns) + thread.pins
-come_back turns thread nodes free are counted right closed =
+    → all_pins nodes ≡ all_pins opened + thread.pins
+come_back opened turns thread nodes opens free are counted right closed =
     let ps = thread.passes in
     let back : length nodes ≡ length turns = sym (length-map nodes (λ n. let r : Result NodeState Busy = Ok n in r)) ∙ closed.count in
-    let long : length (opened_nodes turns) ≡ length turns = length-map turns (λ t. t.opening.node) in
-    let each : (i : ℕ) → i < length ps → pool_pins (shard_at nodes i) + weight unpin_by (shard_pass ps i) ≡ pool_pins (shard_at (opened_nodes turns) i) + weight pin_by (shard_pass ps i) =
+    let long : length turns ≡ length opened = turns_long opened turns opens in
+    let each : (i : ℕ) → i < length ps → pool_pins (shard_at nodes i) + weight unpin_by (shard_pass ps i) ≡ pool_pins (shard_at opened i) + weight pin_by (shard_pass ps i) =
     λ i lt.
     let less : i < length turns = omega (arith, lt, are.count) in
-    let is = opened_at turns i less in
-    let one = closed_pins (shard_turn turns i) (known_of ps i) (shard_at nodes i) (free i less) (right i less) (closed_node turns ps nodes i closed less) in
-    let opened : pool_pins (shard_at (opened_nodes turns) i) ≡ pool_pins (shard_turn turns i).opening.node = ap pool_pins is in
-    omega (arith, one, opened)
+    let here : i < length opened = omega (arith, less, long) in
+    let is : (shard_turn turns i).opening.node ≡ shard_at opened i = opened_node opened turns i opens here in
+    let own : IsFree (view_of (shard_turn turns i).opening.node.pool) = subst (λ (n : NodeState). IsFree (view_of n.pool)) (sym is) (free i here) in
+    let one = closed_pins (shard_turn turns i) (known_of ps i) (shard_at nodes i) own (right i less) (closed_node turns ps nodes i closed less) in
+    let first : pool_pins (shard_turn turns i).opening.node ≡ pool_pins (shard_at opened i) = ap pool_pins is in
+    omega (arith, one, first)
     in
-    let sums = all_closed nodes (opened_nodes turns) ps (back ∙ sym are.count) (long ∙ sym are.count) each in
+    let sums = all_closed nodes opened ps (back ∙ sym are.count) (sym long ∙ sym are.count) each in
     omega (arith, sums, counted, thread_is pin_by ps, thread_is unpin_by ps)
 
 pub pins_come_back : PinsComeBack
-pins_come_back turns thread nodes pools are counted right closed =
-    come_back turns thread nodes (λ i lt. pool_free (shard_turn turns i).opening.node.pool (pools i lt)) are counted right closed
+pins_come_back opened turns thread nodes opens pools are counted right closed =
+    come_back opened turns thread nodes opens (λ i lt. pool_free (shard_at opened i).pool (pools i lt)) are counted right closed
 
 -- ---- none
 
@@ -110,14 +108,12 @@ none_in fs none j = elim (below j (length fs)) [
 pub closes_unpinned : (turns : List ShardTurn) (thread : AttachedView)
     (results : List (Result NodeState Busy)) → AreOf turns thread.passes → thread.pins ≡ 0
     → AreClosed turns thread.passes results → ClosesUnpinned turns thread results
-closes_unpinned turns thread results are no_pins closed none right counted =
+closes_unpinned turns thread results are no_pins closed opened opens none right counted =
     let back = closed_gives_back turns thread.passes results right closed in
     let nodes = back.0 in
-    let opened = opened_nodes turns in
-    let long : length opened ≡ length turns = length-map turns (λ t. t.opening.node) in
     let all : AreClosed turns thread.passes (map (λ n. Ok n) nodes) = subst (λ (rs : List (Result NodeState Busy)). AreClosed turns thread.passes rs) back.1 closed in
-    let free : (i : ℕ) → i < length turns → IsFree (view_of (shard_turn turns i).opening.node.pool) = λ i lt. subst (λ (n : NodeState). IsFree (view_of n.pool)) (opened_at turns i lt) (λ j page. none i (omega (arith, lt, long)) j) in
-    let sums = come_back turns thread nodes free are counted right all in
+    let free : (i : ℕ) → i < length opened → IsFree (view_of (shard_at opened i).pool) = λ i lt j page. none i lt j in
+    let sums = come_back opened turns thread nodes opens free are counted right all in
     let before : all_pins opened ≡ 0 = no_sum pool_pins no_shard opened (λ i lt. no_sum (λ f. f.fixes) no_frame (view_of (shard_at opened i).pool).frames (λ j less. none i lt j)) in
     let after : NoneIsPinned nodes = λ i lt j.
     let one = get_or-le-sum_by pool_pins nodes i no_shard lt in

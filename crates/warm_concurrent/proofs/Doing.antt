@@ -5,7 +5,7 @@ use Rattle.warm_gossip.specs.State.{NodeState}
 use Rattle.warm_concurrent.specs.declared.call.ShardCall.{ShardCall}
 use Rattle.warm_concurrent.specs.declared.call.ShardCall.TheVariants.{Absorb, FlushDevice, ForgetPages, TakeIn, Write, WriteBack, WritePages}
 use Rattle.warm_concurrent.specs.declared.call.ShardReply.{ShardReply}
-use Rattle.warm_concurrent.specs.declared.call.ShardReply.TheVariants.{Changed, Copied, Dirty, Done, Foreign, Looked, Portion, Refused, WasDirty}
+use Rattle.warm_concurrent.specs.declared.call.ShardReply.TheVariants.{Changed, Copied, Dirty, Done, Foreign, Looked, Portion, Refused, Replaced, WasDirty}
 use Rattle.warm_concurrent.specs.Clauses.{IsDoneCall, MayAnswer}
 use Rattle.warm_concurrent.specs.ShardSteps.{IsOwn, NodeGoes, asked_of}
 
@@ -29,6 +29,7 @@ module _ (count i : ℕ) where
   done_goes x y c (Refused why) done goes not_done not_refused = not_refused why refl
   done_goes x y (Absorb batch) (Dirty left) done goes not_done not_refused = goes
   done_goes x y (Absorb batch) (WasDirty was_dirty) done goes not_done not_refused = goes
+  done_goes x y (Absorb batch) (Replaced was) done goes not_done not_refused = goes
   done_goes x y (Absorb batch) (Portion message more) done goes not_done not_refused = goes
   done_goes x y (Absorb batch) (Copied copy) done goes not_done not_refused = goes
   done_goes x y (Absorb batch) (Looked slot bytes) done goes not_done not_refused = goes
@@ -37,6 +38,7 @@ module _ (count i : ℕ) where
   done_goes x y (Absorb batch) r done goes not_done not_refused = goes.0
   done_goes x y (Write slot at bytes) (Dirty left) done goes not_done not_refused = goes
   done_goes x y (Write slot at bytes) (WasDirty was_dirty) done goes not_done not_refused = goes
+  done_goes x y (Write slot at bytes) (Replaced was) done goes not_done not_refused = goes
   done_goes x y (Write slot at bytes) (Portion message more) done goes not_done not_refused = goes
   done_goes x y (Write slot at bytes) (Copied copy) done goes not_done not_refused = goes
   done_goes x y (Write slot at bytes) (Looked there seen) done goes not_done not_refused = goes

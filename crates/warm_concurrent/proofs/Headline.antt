@@ -163,7 +163,7 @@ gather P d (suc k) each =
     )
 
 -- the shard of this number opened with the node of its place
-opened_node : (opened : List NodeState) (turns : List ShardTurn) (i : ℕ)
+pub opened_node : (opened : List NodeState) (turns : List ShardTurn) (i : ℕ)
     → openings turns ≡ shards_over opened → i < length opened
     → (shard_turn turns i).opening.node ≡ shard_at opened i
 opened_node opened turns i opens lt =

@@ -29,7 +29,7 @@ use Rattle.warm_shards.proofs.Staying.{failures_stay, steps_stay}
 use Rattle.warm_concurrent.specs.declared.call.ShardCall.{ShardCall}
 use Rattle.warm_concurrent.specs.declared.call.ShardCall.TheVariants.{Absorb, Change, Look, Pin, PinFilled, PinZeroed, TakeIn}
 use Rattle.warm_concurrent.specs.declared.call.ShardReply.{ShardReply}
-use Rattle.warm_concurrent.specs.declared.call.ShardReply.TheVariants.{Answers, Changed, Copied, Dirty, Done, Foreign, Looked, Page, Pinned, Portion, Refused, WasDirty}
+use Rattle.warm_concurrent.specs.declared.call.ShardReply.TheVariants.{Answers, Changed, Copied, Dirty, Done, Foreign, Looked, Page, Pinned, Portion, Refused, Replaced, WasDirty}
 use Rattle.warm_concurrent.specs.Attached.{Known, ShardTurn}
 use Rattle.warm_concurrent.specs.Laws.{ShardsHoldTheirPages}
 use Rattle.warm_concurrent.specs.Opening.{ClosesShard, shards_from, shards_over, state_at}
@@ -148,6 +148,8 @@ module _ (count i : ℕ) where
   step_own n m copying r brings own step = absurd step
   step_own n m (retiring dev told) Done brings own step =
       pool_own n m own step.2 (retired_own {T = Unit} {E = PoolFault} IsHere n m dev step.0 (λ f. f) (Ok tt) own.resident step.2 step.3.retired tt).own
+  step_own n m (retiring dev told) (Replaced given) brings own step =
+      pool_own n m own step.4 (retired_own {T = Unit} {E = PoolFault} IsHere n m dev step.0 (λ f. f) (Ok tt) own.resident step.4 step.5.retires.retired tt).own
   step_own n m (retiring dev told) (Refused (Pool fault)) brings own step =
       pool_own n m own step.2 (retired_own {T = Unit} {E = PoolFault} IsHere n m dev step.0 (λ f. f) (Err fault) own.resident step.2 tt step.3.cause).own
   step_own n m (retiring dev told) (Refused Memory) brings own step = subst (HoldsShard count i) (sym step) own

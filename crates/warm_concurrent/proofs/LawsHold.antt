@@ -27,7 +27,7 @@ use Rattle.warm_stamps.specs.declared.Reference.{Reference}
 use Rattle.warm_concurrent.specs.declared.call.ShardCall.{ShardCall}
 use Rattle.warm_concurrent.specs.declared.call.ShardCall.TheVariants.{Absorb, Answer, CopyHistory, Offer}
 use Rattle.warm_concurrent.specs.declared.call.ShardReply.{ShardReply}
-use Rattle.warm_concurrent.specs.declared.call.ShardReply.TheVariants.{Answers, Changed, Copied, Dirty, Done, Foreign, Kept, Looked, Page, Pinned, Portion, Refused, WasDirty}
+use Rattle.warm_concurrent.specs.declared.call.ShardReply.TheVariants.{Answers, Changed, Copied, Dirty, Done, Foreign, Kept, Looked, Page, Pinned, Portion, Refused, Replaced, WasDirty}
 use Rattle.warm_concurrent.specs.declared.fault.SharedFault.{SharedFault}
 use Rattle.warm_concurrent.specs.declared.fault.SharedFault.TheVariants.{Node, TurnsSpent}
 use Rattle.warm_concurrent.specs.Answering.{AnswersPart, Offers, offer_at, offer_reply}
@@ -172,6 +172,7 @@ beside o y copying (Copied h) is step = ap (λ (n : NodeState). n.history) step.
 beside o y copying (Refused why) is step = ap (λ (n : NodeState). n.history) step.1
 beside o y copying r is step = absurd step
 beside o y (retiring dev told) Done is step = step.2.history
+beside o y (retiring dev told) (Replaced given) is step = step.4.history
 beside o y (retiring dev told) (Refused (Pool _)) is step = step.2.history
 beside o y (retiring dev told) (Refused Memory) is step = ap (λ (n : NodeState). n.history) step
 beside o y (retiring dev told) r is step = absurd step

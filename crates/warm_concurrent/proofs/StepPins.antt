@@ -22,7 +22,7 @@ use Rattle.warm_machine.specs.Runs.{Runs}
 use Rattle.warm_concurrent.specs.declared.call.ShardCall.{ShardCall}
 use Rattle.warm_concurrent.specs.declared.call.ShardCall.TheVariants.{Absorb, Answer, Change, CopyHistory, FlushDevice, ForgetPages, Look, Offer, Pin, PinFilled, PinZeroed, Raise, Read, Retire, Send, SendSince, TakeIn, Unpin, Victim, WarmList, WarmNext, WarmStep, Write, WriteBack, WritePage, WritePages, WriteSome}
 use Rattle.warm_concurrent.specs.declared.call.ShardReply.{ShardReply}
-use Rattle.warm_concurrent.specs.declared.call.ShardReply.TheVariants.{Answers, Changed, Copied, Dirty, Done, Foreign, Loaded, Looked, Page, Pinned, Portion, Refused, WasDirty}
+use Rattle.warm_concurrent.specs.declared.call.ShardReply.TheVariants.{Answers, Changed, Copied, Dirty, Done, Foreign, Loaded, Looked, Page, Pinned, Portion, Refused, Replaced, WasDirty}
 use Rattle.warm_concurrent.specs.Given.{Log}
 use Rattle.warm_concurrent.specs.Pins.{LeadsTo, PinsAreGiven, pin_by, pool_pins, unpin_by}
 use Rattle.warm_concurrent.specs.ShardSteps.{CallGoes, NodeGoes, ShardState, ShardStep, asked_of, node_reply_of}
@@ -101,6 +101,7 @@ goes_moves n m (Pin p) (Dirty left) free step = absurd step
 goes_moves n m (Pin p) (WasDirty was_dirty) free step = absurd step
 goes_moves n m (Pin p) (Portion message more) free step = absurd step
 goes_moves n m (Pin p) (Copied history) free step = absurd step
+goes_moves n m (Pin p) (Replaced given) free step = absurd step
 goes_moves n m (Pin p) (Looked slot bytes) free step = absurd step
 goes_moves n m (Pin p) (Changed slot before after) free step = absurd step
 goes_moves n m (Pin p) Foreign free step = absurd step
@@ -112,6 +113,7 @@ goes_moves n m (Unpin slot) (Dirty left) free step = absurd step
 goes_moves n m (Unpin slot) (WasDirty was_dirty) free step = absurd step
 goes_moves n m (Unpin slot) (Portion message more) free step = absurd step
 goes_moves n m (Unpin slot) (Copied history) free step = absurd step
+goes_moves n m (Unpin slot) (Replaced given) free step = absurd step
 goes_moves n m (Unpin slot) (Looked at bytes) free step = absurd step
 goes_moves n m (Unpin slot) (Changed at before after) free step = absurd step
 goes_moves n m (Unpin slot) Foreign free step = absurd step
@@ -123,6 +125,7 @@ goes_moves n m WarmStep (Dirty left) free step = absurd step
 goes_moves n m WarmStep (WasDirty was_dirty) free step = absurd step
 goes_moves n m WarmStep (Portion message more) free step = absurd step
 goes_moves n m WarmStep (Copied history) free step = absurd step
+goes_moves n m WarmStep (Replaced given) free step = absurd step
 goes_moves n m WarmStep (Looked slot bytes) free step = absurd step
 goes_moves n m WarmStep (Changed slot before after) free step = absurd step
 goes_moves n m WarmStep Foreign free step = absurd step
@@ -177,6 +180,8 @@ goes_moves n m (ForgetPages dev from) (Refused why) free step =
 goes_moves n m (ForgetPages dev from) r free step = absurd step
 goes_moves n m (Retire dev told) Done free step =
     retired_moves (view_of n.pool) (view_of m.pool) dev step.0 step.3.retired free
+goes_moves n m (Retire dev told) (Replaced given) free step =
+    retired_moves (view_of n.pool) (view_of m.pool) dev step.0 step.5.retires.retired free
 goes_moves n m (Retire dev told) (Refused (Pool fault)) free step =
     stays n m free (retire_refused (view_of n.pool) (view_of m.pool) dev step.0 fault step.3.cause)
 goes_moves n m (Retire dev told) (Refused Memory) free step = stays n m free (unmoved n m step)

@@ -15,7 +15,7 @@ abbrev thread : List ShardPass → ℕ → AttachedView
 thread passes pins = record { passes = passes; pins = pins }
 
 pub two_threads_unpin : TwoThreadsUnpin
-two_threads_unpin turns first here there mine yours done other all i j p q a b results none start halved split in_i in_j pinned also unpinned back joined are closes =
+two_threads_unpin opened turns first here there mine yours done other all i j p q a b results opens none start halved split in_i in_j pinned also unpinned back joined are closes =
     let here_long : length here ≡ length turns = halved.count ∙ start.count in
     let there_long : length there ≡ length turns = split.count ∙ start.count in
     let ours = calls_keep.called here mine i (Pin p) (Pinned a) (omega (arith, in_i, here_long)) pinned in
@@ -45,11 +45,11 @@ two_threads_unpin turns first here there mine yours done other all i j p q a b r
     ) in
     let right : HasWholeRight (length turns) all = alone_has_all turns first all between start come in
     let law = pins_are_counted in
-    let opened : IsCounted (thread here 0) = law.counts 0 0 (thread first 0) (thread here 0) (law.shared turns first start) (law.halved first here halved) refl in
-    let ours_one : IsCounted (thread mine 1) = law.counts 1 0 (thread here 0) (thread mine 1) opened ((law.calls here mine).called i (Pin p) (Pinned a) (omega (arith, in_i, here_long)) pinned) refl in
+    let ours_first : IsCounted (thread here 0) = law.counts 0 0 (thread first 0) (thread here 0) (law.shared turns first start) (law.halved first here halved) refl in
+    let ours_one : IsCounted (thread mine 1) = law.counts 1 0 (thread here 0) (thread mine 1) ours_first ((law.calls here mine).called i (Pin p) (Pinned a) (omega (arith, in_i, here_long)) pinned) refl in
     let ours_none : IsCounted (thread done 0) = law.counts 0 1 (thread mine 1) (thread done 0) ours_one ((law.calls mine done).called j (Unpin b) Done (omega (arith, in_j, mine_long)) unpinned) refl in
     let theirs_one : IsCounted (thread yours 1) = law.counts 1 0 (thread there 0) (thread yours 1) (law.attached first there split) ((law.calls there yours).called j (Pin q) (Pinned b) (omega (arith, in_j, there_long)) also) refl in
     let theirs_none : IsCounted (thread other 0) = law.counts 0 1 (thread yours 1) (thread other 0) theirs_one ((law.calls yours other).called i (Unpin a) Done (omega (arith, in_i, yours_long)) back) refl in
     let detached = law.detached done all (thread other 0) (omega (arith, other_long, done_long)) theirs_none refl joined in
     let counted : IsCounted (thread all 0) = law.counts detached.0 detached.0 (thread done 0) (thread all 0) ours_none detached.1 (omega arith) in
-    closes_unpinned turns (thread all 0) results are refl closes none right counted
+    closes_unpinned turns (thread all 0) results are refl closes opened opens none right counted

@@ -45,12 +45,11 @@ use Rattle.warm_concurrent.specs.declared.call.ShardReply.TheVariants.{Done, Pin
 use Rattle.warm_concurrent.specs.declared.fault.SharedFault.{SharedFault}
 use Rattle.warm_concurrent.specs.Answering.{AnswersFirst, OffersFirst}
 use Rattle.warm_concurrent.specs.Attached.{AreOf, AttachedView, Known, ShardPass, ShardTurn}
-use Rattle.warm_concurrent.specs.Attached.{shard_turn}
 use Rattle.warm_concurrent.specs.Clauses.{AnsweredByShard, CallFails}
 use Rattle.warm_concurrent.specs.Copying.{CopiesFirst}
 use Rattle.warm_concurrent.specs.Given.{Log}
 use Rattle.warm_concurrent.specs.Opening.{AreClosed, AreFirst, AreHalved, AreSplit}
-use Rattle.warm_concurrent.specs.Opening.{PassesAreJoined}
+use Rattle.warm_concurrent.specs.Opening.{PassesAreJoined, openings, shards_over}
 use Rattle.warm_concurrent.specs.Rights.{HasWholeRight}
 use Rattle.warm_concurrent.specs.ShardSteps.{ShardState, ShardStep}
 use Rattle.warm_concurrent.specs.Whole.{AbsorbsFirst, DoneFirst, RaisesFirst, TakesFirst}
@@ -164,23 +163,21 @@ pub record PinsAreCounted : Type 0 where
 
 -- A close
 
--- the nodes with which the shards opened
-abbrev pub opened_nodes : List ShardTurn → List NodeState
-opened_nodes turns = map (λ t. t.opening.node) turns
-
--- The thread that is left closes the shards: together the nodes have the pins with which they
--- opened, and as many as the thread counts.
+-- The thread that is left closes the shards: together the nodes have the pins of those with which
+-- the shards opened, and as many as the thread counts.
 abbrev pub PinsComeBack : Type 0
-PinsComeBack = (turns : List ShardTurn) (thread : AttachedView) (nodes : List NodeState)
-    → ((i : ℕ) → i < length turns → IsPool (shard_turn turns i).opening.node.pool)
+PinsComeBack = (opened : List NodeState) (turns : List ShardTurn) (thread : AttachedView)
+    (nodes : List NodeState) → openings turns ≡ shards_over opened
+    → ((i : ℕ) → i < length opened → IsPool (shard_at opened i).pool)
     → AreOf turns thread.passes → IsCounted thread → HasWholeRight (length turns) thread.passes
     → AreClosed turns thread.passes (map (λ n. Ok n) nodes)
-    → all_pins nodes ≡ all_pins (opened_nodes turns) + thread.pins
+    → all_pins nodes ≡ all_pins opened + thread.pins
 
 -- If no page was pinned when the shards opened, and the thread that closes them has the whole right
 -- to and a right count, each node is given back, and no page is pinned.
 abbrev pub ClosesUnpinned : List ShardTurn → AttachedView → List (Result NodeState Busy) → Type 0
-ClosesUnpinned turns thread results = NoneIsPinned (opened_nodes turns)
+ClosesUnpinned turns thread results = (opened : List NodeState)
+    → openings turns ≡ shards_over opened → NoneIsPinned opened
     → HasWholeRight (length turns) thread.passes → IsCounted thread
     → (nodes : List NodeState) × (results ≡ map (λ n. Ok n) nodes) × NoneIsPinned nodes
 
@@ -190,11 +187,11 @@ ClosesUnpinned turns thread results = NoneIsPinned (opened_nodes turns)
 -- unpins the slot of the other. The other is detached into the first, which closes the shards: each
 -- node is given back, and no page is pinned.
 abbrev pub TwoThreadsUnpin : Type 0
-TwoThreadsUnpin = (turns : List ShardTurn) (first here there : List ShardPass)
-    (mine yours done other all : List ShardPass) (i j : ℕ) (p q : PageId) (a b : Slot)
-    (results : List (Result NodeState Busy)) → NoneIsPinned (opened_nodes turns)
-    → AreFirst turns first → AreHalved first here → AreSplit first there → i < length turns
-    → j < length turns → AnsweredByShard here i (Pin p) (Pinned a) mine
+TwoThreadsUnpin = (opened : List NodeState) (turns : List ShardTurn)
+    (first here there mine yours done other all : List ShardPass) (i j : ℕ) (p q : PageId)
+    (a b : Slot) (results : List (Result NodeState Busy)) → openings turns ≡ shards_over opened
+    → NoneIsPinned opened → AreFirst turns first → AreHalved first here → AreSplit first there
+    → i < length turns → j < length turns → AnsweredByShard here i (Pin p) (Pinned a) mine
     → AnsweredByShard there j (Pin q) (Pinned b) yours
     → AnsweredByShard mine j (Unpin b) Done done → AnsweredByShard yours i (Unpin a) Done other
     → PassesAreJoined done other all → AreOf turns all → AreClosed turns all results

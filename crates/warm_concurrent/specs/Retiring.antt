@@ -7,7 +7,7 @@ use Rattle.warm_gossip.specs.declared.fault.NodeFault.TheVariants.{Pool}
 use Rattle.warm_concurrent.specs.declared.call.ShardCall.{ShardCall}
 use Rattle.warm_concurrent.specs.declared.call.ShardCall.TheVariants.{Retire}
 use Rattle.warm_concurrent.specs.declared.call.ShardReply.{ShardReply}
-use Rattle.warm_concurrent.specs.declared.call.ShardReply.TheVariants.{Done, Refused}
+use Rattle.warm_concurrent.specs.declared.call.ShardReply.TheVariants.{Done, Refused, Replaced}
 use Rattle.warm_concurrent.specs.declared.fault.SharedFault.{SharedFault}
 use Rattle.warm_concurrent.specs.declared.fault.SharedFault.TheVariants.{Node, TurnsSpent}
 use Rattle.warm_concurrent.specs.Attached.{ShardPass}
@@ -23,11 +23,25 @@ RetiresAs fault dev device (Ok done) call reply = (told : Tag) × IsTold told de
 RetiresAs fault dev device (Err e) call reply = (told : Tag) × IsTold told device
     × (call ≡ Retire dev told) × (reply ≡ Refused (Pool (fault e)))
 
+-- the same of a device that was replaced, where the old one is given back, in this state
+abbrev pub ReplacesAs : {D E : Type 0} → (D → DeviceState) → (E → PoolFault) → ℕ → DeviceState
+    → Result D E → ShardCall → ShardReply → Type 0
+ReplacesAs state fault dev device (Ok was) call reply = (told : Tag) × (given : Tag)
+    × IsTold told device × IsTold given (state was)
+    × (call ≡ Retire dev told) × (reply ≡ Replaced given)
+ReplacesAs state fault dev device (Err e) call reply = (told : Tag) × IsTold told device
+    × (call ≡ Retire dev told) × (reply ≡ Refused (Pool (fault e)))
+
 -- the shard of this number replaced its device with one of this state, in one turn, and no other was
 -- entered
 abbrev pub RetiresAt : List ShardPass → ℕ → ℕ → DeviceState → List ShardPass → Type 0
 RetiresAt old i dev device new = (told : Tag) × IsTold told device
     × AnsweredByShard old i (Retire dev told) Done new
+
+-- the same, and the old device was given back, in this state
+abbrev pub ReplacesAt : List ShardPass → ℕ → ℕ → DeviceState → DeviceState → List ShardPass → Type 0
+ReplacesAt old i dev device was new = (told : Tag) × (given : Tag) × IsTold told device
+    × IsTold given was × AnsweredByShard old i (Retire dev told) (Replaced given) new
 
 -- the shard refused to, with a fault of its pool; or no ticket was left
 abbrev pub RetireFailsAt : List ShardPass → ℕ → ℕ → DeviceState → SharedFault → List ShardPass

@@ -104,8 +104,9 @@ pub enum ShardCall {
         /// The number of the first page.
         from: u64,
     },
-    /// Replace a device of the shard with another, and drop the old one. A value of this call brings
-    /// no device, and is refused: [`crate::SharedShards::retire`] brings one.
+    /// Replace a device of the shard with another. The old one is dropped, or given back. A value of
+    /// this call brings no device, and is refused: [`crate::SharedShards::retire`] brings one, and
+    /// [`crate::SharedShards::replace`].
     Retire {
         /// The device.
         dev: u16,
@@ -152,6 +153,11 @@ pub enum ShardReply {
     Answers(MessageList),
     /// A copy of the history.
     Copied(BoxedHistory),
+    /// The device was replaced, and the old one given back.
+    Replaced {
+        /// The state of the old device, which exists here only in contracts.
+        was: Tag,
+    },
     /// The call brings a page, or a bucket, of another shard. Nothing has changed.
     Foreign,
     /// The node refused the call, or no memory was left for a box.

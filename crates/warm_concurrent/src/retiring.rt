@@ -1,7 +1,8 @@
 //! Replacing a device of a shard with another, in one turn of the shard.
-ghost use Rattle.std.specs.Prelude.{◌≡◌, ◌<◌, length, IfErr, OnOk};
+ghost use Rattle.std.specs.Prelude.{◌≡◌, ◌<◌, length, IfErr, IfOk, OnOk};
 ghost use Rattle.warm_concurrent.specs.Attached.{AreOf, AreTurns};
-ghost use Rattle.warm_concurrent.specs.Retiring.{RetireFailsAt, RetiresAs, RetiresAt};
+ghost use Rattle.warm_concurrent.specs.Retiring.{ReplacesAs, ReplacesAt, RetireFailsAt};
+ghost use Rattle.warm_concurrent.specs.Retiring.{RetiresAs, RetiresAt};
 ghost use Rattle.warm_concurrent.specs.ShardSteps.{ShardStep};
 ghost use Rattle.warm_concurrent.specs.ToldDevices.{IsTold};
 
@@ -69,7 +70,60 @@ impl<D: PageDevice + Send> Visit<Shard<D>> for Retiring<D> {
     }
 }
 
+// Replaces a device with another, and gives the old one back.
+pub(crate) struct Replacing<D> {
+    pub(crate) dev: u16,
+    pub(crate) device: D,
+}
+
+impl<D: PageDevice + Send> Visit<Shard<D>> for Replacing<D> {
+    ghost use Rattle.std.specs.Prelude.{◌≡◌, ⊤, IfErr};
+    ghost use Rattle.warm_concurrent.specs.Retiring.{ReplacesAs};
+
+    type Output = Result<D, RetireError<D>>;
+
+    ghost ready = { λ _. ⊤ };
+
+    ghost makes = { λ v output call reply.
+        ReplacesAs D.state (λ e. e.fault) v.dev (D.state v.device) output call reply
+        × IfErr output (λ e. e.device ≡ v.device) };
+
+    fn visit(
+        self,
+        shard: &mut Shard<D>,
+    ) -> Visited<ShardCall, ShardReply, Result<D, RetireError<D>>> {
+        let Replacing { dev, device } = self;
+        shard.replace(dev, device)
+    }
+}
+
 impl<D: PageDevice> Shard<D> {
+    // Replaces a device of this shard with another, and gives the old one back.
+    fn replace(
+        &mut self,
+        dev: u16,
+        device: D,
+    ) -> Visited<ShardCall, ShardReply, Result<D, RetireError<D>>>
+        ensures made { ReplacesAs D.state (λ e. e.fault) dev (D.state device) result.output
+            result.made.call.value result.made.reply.value }
+        ensures given_back { IfErr result.output (λ e. e.device ≡ device) }
+        ensures step { ShardStep self.old result.made.call.value result.made.reply.value
+            self.new }
+    {
+        let told = told_of(&device);
+        let call = ShardCall::Retire { dev, device: told };
+        match self.node.replace(dev, device) {
+            Ok(was) => {
+                let given = told_of(&was);
+                visited(call, ShardReply::Replaced { was: given }, Ok(was))
+            }
+            Err(unretired) => {
+                let why = NodeFault::Pool(unretired.fault);
+                visited(call, ShardReply::Refused(why), Err(unretired))
+            }
+        }
+    }
+
     // Replaces a device of this shard with another, and drops the old one.
     fn retire(
         &mut self,
@@ -129,7 +183,70 @@ fn retire_in<D: PageDevice + Send, R: Wait>(
     }
 }
 
+// Replaces a device of one shard, and gives the old one back.
+fn replace_in<D: PageDevice + Send, R: Wait>(
+    rt: &R,
+    turns: &Vec<Turn<Shard<D>>>,
+    passes: &mut Vec<Pass<Shard<D>>>,
+    shard: usize,
+    dev: u16,
+    device: D,
+) -> Result<D, NotRetired<D>>
+    requires turns { AreTurns turns.now.items }
+    requires passes { AreOf turns.now.items passes.old.items }
+    requires there { shard < length turns.now.items }
+    ensures passes { AreOf turns.now.items passes.new.items }
+    ensures replaced { IfOk result (λ was. ReplacesAt passes.old.items shard dev (D.state device)
+        (D.state was) passes.new.items) }
+    ensures refused { IfErr result (λ unretired. RetireFailsAt passes.old.items shard dev
+        (D.state device) unretired.fault passes.new.items) }
+    ensures given_back { IfErr result (λ unretired. unretired.device ≡ device) }
+{
+    match visit_or_back(rt, turns, passes, shard, Replacing { dev, device }) {
+        Ok(Ok(was)) => Ok(was),
+        Ok(Err(unretired)) => {
+            let RetireError { fault, device } = unretired;
+            Err(NotRetired {
+                fault: SharedFault::Node(NodeFault::Pool(fault)),
+                device,
+            })
+        }
+        Err(Replacing { dev: _, device }) => Err(NotRetired {
+            fault: SharedFault::TurnsSpent,
+            device,
+        }),
+    }
+}
+
 impl<D: PageDevice + Send> SharedShards<D> {
+    /// Replaces a device of a shard with another, and returns the old one: one turn of the shard, in
+    /// which the call `Retire` is answered, as of [`SharedShards::retire`]. The old device has each
+    /// page that was written, and nothing is unflushed: see [`warm_gossip::Node::replace`].
+    /// Allocation-free.
+    ///
+    /// # Errors
+    /// Those of `retire`, with the same effects. Each gives the new device back.
+    pub fn replace<R: Wait>(
+        &self,
+        rt: &R,
+        attached: &mut Attached<D>,
+        shard: usize,
+        dev: u16,
+        device: D,
+    ) -> Result<D, NotRetired<D>>
+        requires passes { AreOf self.now attached.old.passes }
+        requires there { shard < length self.now }
+        ensures attached { AreOf self.now attached.new.passes }
+        ensures replaced { IfOk result (λ was. ReplacesAt attached.old.passes shard dev
+            (D.state device) (D.state was) attached.new.passes) }
+        ensures refused { IfErr result (λ unretired. RetireFailsAt attached.old.passes shard dev
+            (D.state device) unretired.fault attached.new.passes) }
+        ensures given_back { IfErr result (λ unretired. unretired.device ≡ device) }
+        ensures pins { attached.new.pins ≡ attached.old.pins }
+    {
+        replace_in(rt, &self.turns, &mut attached.passes, shard, dev, device)
+    }
+
     /// Replaces a device of a shard with another, and drops the old one: one turn of the shard, in
     /// which the call `Retire` is answered. The dirty pages of the old device are written back, it
     /// is flushed, and its pages are evicted: see [`warm_gossip::Node::retire`]. Each shard has a
