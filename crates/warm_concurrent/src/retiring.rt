@@ -117,9 +117,9 @@ impl<D: PageDevice> Shard<D> {
                 let given = told_of(&was);
                 visited(call, ShardReply::Replaced { was: given }, Ok(was))
             }
-            Err(unretired) => {
-                let why = NodeFault::Pool(unretired.fault);
-                visited(call, ShardReply::Refused(why), Err(unretired))
+            Err(unreplaced) => {
+                let why = NodeFault::Pool(unreplaced.fault);
+                visited(call, ShardReply::Refused(why), Err(unreplaced))
             }
         }
     }
