@@ -4,10 +4,11 @@
  *
  * In each round each thread pins the same page, which is in no frame, by a handle of its own. The
  * first reads of the page fail: none in the first round, one in the next, and so on, until all do.
- * No read ends before all threads want the page, so that the others wait for it. Each read that
- * fails refuses one call, whose handle says which page it was, and leaves the other ones to try
- * again, one at a time. A read that does not fail is the last one: all other threads have the page
- * then, where it is. Nobody sees what a read has written that fails. Prints how many failed.
+ * No read ends before all threads are about to pin the page, so that mostly the others wait for
+ * it. Each read that fails refuses one call, whose handle says which page it was, and leaves the
+ * other ones to try again, one at a time. A read that does not fail is the last one: all other
+ * threads have the page then, where it is. Nobody sees what a read has written that fails. Prints
+ * how many failed.
  */
 #define _GNU_SOURCE
 #include <errno.h>

@@ -463,7 +463,7 @@ static void kill_one(int fd, int log, uint64_t latest, unsigned at, size_t threa
     close(begun[0]);
 }
 
-/* By one thread over one shard; or by 2 to 4 of them, over 1 and over 4 shards in turn. */
+/* By one thread over one shard; or by 2 to 4 of them, over 1 shard and then over 4. */
 static void killed(unsigned kills, bool in_threads) {
     int fd = temporary(), log = temporary();
     uint64_t latest = 0;
