@@ -52,9 +52,11 @@ pub(crate) fn play<P: Print, R: Wait>(
     let mut into = Vec::new(alloc);
     into.extend_from_slice(b"read")?;
     let (replica, worker, slot) = workers::opened(alloc)?;
+    let (blank, there) = filled::shared(alloc)?;
     // from here on nothing is allocated
     shared::rows(rt, met, waits, shared, thread, other, into)?;
     workers::rows(rt, met, waits, replica, worker, slot)?;
+    filled::shared_rows(rt, met, waits, blank, there)?;
     calls::rows(rt, met, &mut node, ByteList::of(bytes))?;
     sharded.rows(rt, met, alloc)?;
     handed_back.rows(rt, met)?;

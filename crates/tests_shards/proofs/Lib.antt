@@ -1,2 +1,1 @@
-mod Fresh
 mod Pinned

@@ -1,12 +1,13 @@
-//! What an engine asks of shared shards, in turns of the shards: the hottest pages, what is new
-//! since a time, pages written back in portions, pages of zeros, and pages that are forgotten.
+//! What an engine asks of shared shards, in turns of the shards: the hottest pages of one or of all,
+//! what is new since a time, pages written back in portions, pages of zeros, and pages that are
+//! forgotten.
 ghost use Rattle.warm_concurrent.specs.Attached.{AreOf};
 
-use crate::kit::{batch, bytes_of, closed, dirty, shared_of};
+use crate::kit::{batch, bytes_of, closed, dirty, node, shared_of};
 use crate::looking::seen_in;
 use crate::shared::is_written;
 use std::sync::Wait;
-use test_kit::{SeenAt, bucket, page};
+use test_kit::{SeenAt, bucket, page, page_on};
 use warm_concurrent::{Attached, SharedFault, SharedShards, Stopped};
 use warm_devices::MemDevice;
 use warm_frames::Message;
@@ -35,7 +36,7 @@ fn hottest<R: Wait>(
     if shard >= shared.count() {
         return None;
     }
-    shared.warm_list(rt, thread, shard, n).ok()
+    shared.warm_list_of(rt, thread, shard, n).ok()
 }
 
 #[test]
@@ -50,6 +51,44 @@ fn the_hottest_pages_of_a_shard_are_listed(rt: HostRuntime) {
     assert!(rt; one.as_slice() == [page(1)].as_slice());
     let other = hottest(&rt, &shared, &mut first, 0, 8).expect(&rt, "memory for a list");
     assert!(rt; other.as_slice() == [page(2)].as_slice());
+}
+
+// A node of the same references lists the same pages.
+#[test]
+fn the_hottest_pages_of_all_shards_are_listed(rt: HostRuntime) {
+    let alloc = rt.alloc();
+    let (shared, mut first) = shared_of(&rt, alloc, 1, 2);
+    let given = batch(&rt, alloc, GIVEN);
+    assert!(rt; shared.absorb(&rt, alloc, &mut first, &given).is_ok());
+    let all = shared.warm_list(&rt, alloc, &mut first, 8);
+    let all = all.ok().expect(&rt, "memory for a list");
+    assert!(rt; all.as_slice() == [page(1), page(2), page(65)].as_slice());
+    let mut model = node(&rt, alloc, 1);
+    model.absorb(&given).ok().expect(&rt, "memory for pages");
+    let listed = model.warm_list(8).ok().expect(&rt, "memory for a list");
+    assert!(rt; all.as_slice() == listed.as_slice());
+    let two = shared.warm_list(&rt, alloc, &mut first, 2);
+    let two = two.ok().expect(&rt, "memory for a list");
+    assert!(rt; two.as_slice() == [page(1), page(2)].as_slice());
+    let none = shared.warm_list(&rt, alloc, &mut first, 0);
+    assert!(rt;
+        none.ok()
+            .expect(&rt, "memory for a list")
+            .as_slice()
+            .is_empty()
+    );
+}
+
+#[test]
+fn each_page_is_in_the_shard_of_its_number(rt: HostRuntime) {
+    let alloc = rt.alloc();
+    let (shared, mut first) = shared_of(&rt, alloc, 1, 4);
+    assert!(rt; shared.shard_of(page(0)) == 0 && shared.shard_of(page(3)) == 3);
+    assert!(rt; shared.shard_of(page(65)) == 1 && shared.shard_of(page_on(1, 3)) == 0);
+    let at = shared.pin(&rt, &mut first, page(6));
+    let at = at.ok().expect(&rt, "page 6 is pinned");
+    assert!(rt; at.shard == shared.shard_of(page(6)) && at.shard == 2);
+    assert!(rt; shared.unpin(&rt, &mut first, at).is_ok());
 }
 
 // The pages of a message of entries.
@@ -115,7 +154,7 @@ fn a_page_of_a_shard_gets_zeros(rt: HostRuntime) {
     let alloc = rt.alloc();
     let (shared, mut first) = shared_of(&rt, alloc, 1, 2);
     assert!(rt; is_written(&rt, alloc, &shared, &mut first, 1));
-    assert!(rt; shared.write_back(&rt, &mut first).is_ok());
+    assert!(rt; shared.write_back_all(&rt, &mut first).is_ok());
     assert!(rt; seen_in(&rt, &shared, &mut first, 1) == Ok(7));
     let at = shared.pin_zeroed(&rt, &mut first, page(1));
     let at = at.ok().expect(&rt, "page 1 is pinned");

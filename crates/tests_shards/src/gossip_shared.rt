@@ -6,7 +6,7 @@ use crate::kit::{batch, bytes_of, node, shared_of};
 use std::alloc::Global;
 use std::process::Abort;
 use std::sync::Wait;
-use test_kit::{SeenAt, page, replica};
+use test_kit::{SeenAt, bucket, page, replica};
 use warm_concurrent::{Attached, SharedShards};
 use warm_devices::MemDevice;
 use warm_frames::{Message, MessageList};
@@ -132,7 +132,7 @@ fn agree(rt: &(impl Wait + Abort), alloc: Global, first: usize, second: usize) {
         two.absorb(rt, alloc, &mut there, &batch(rt, alloc, SECOND))
             .is_ok()
     );
-    assert!(rt; two.raise(rt, &mut there, 10).is_ok());
+    assert!(rt; two.raise(rt, &mut there, 10) == Ok(10));
     let some = exchanged(rt, alloc, &one, &mut here, &two, &mut there);
     assert!(rt; some != None && some != Some(0));
     let mut model = model(rt, alloc, 10);
@@ -183,7 +183,7 @@ fn answers_of(
     );
     let given = shared.receive(rt, alloc, &mut attached, message);
     let given = given.ok().expect(rt, "memory for messages");
-    assert!(rt; shared.raise(rt, &mut attached, 0).is_ok());
+    assert!(rt; shared.horizon(rt, &mut attached) == Ok(message.horizon()));
     given
 }
 
@@ -231,6 +231,55 @@ fn are_alike(rt: &impl Abort, alloc: Global, these: &MessageList, those: &Messag
         }
     }
     true
+}
+
+// What shards that were given the first batch would answer to a message. It changes nothing.
+fn asked(rt: &(impl Wait + Abort), alloc: Global, count: usize, message: &Message) -> MessageList {
+    let (shared, mut attached) = shared_of(rt, alloc, 1, count);
+    assert!(rt;
+        shared
+            .absorb(rt, alloc, &mut attached, &batch(rt, alloc, FIRST))
+            .is_ok()
+    );
+    let before = offered(rt, alloc, &shared, &mut attached);
+    let given = shared.answers(rt, alloc, &mut attached, message);
+    assert!(rt; shared.horizon(rt, &mut attached) == Ok(0));
+    assert!(rt; offered(rt, alloc, &shared, &mut attached) == before);
+    given.ok().expect(rt, "memory for messages")
+}
+
+#[test]
+fn a_request_would_be_answered_as_by_a_node(rt: HostRuntime) {
+    let alloc = rt.alloc();
+    // The later horizon forgets one reference.
+    let wanted = node_answers(&rt, alloc, want_all(11));
+    assert!(rt; wanted.as_slice().len() == 4);
+    for count in [1, 4, 64] {
+        let given = asked(&rt, alloc, count, &want_all(11));
+        assert!(rt; are_alike(&rt, alloc, &given, &wanted));
+    }
+}
+
+#[test]
+fn digests_would_be_answered_as_by_a_node(rt: HostRuntime) {
+    let alloc = rt.alloc();
+    let wanted = node_answers(&rt, alloc, empty_offer(&rt, alloc));
+    assert!(rt; matches!(wanted.as_slice().last(), Some(Message::Want { .. })));
+    for count in [1, 8] {
+        let given = asked(&rt, alloc, count, &empty_offer(&rt, alloc));
+        assert!(rt; are_alike(&rt, alloc, &given, &wanted));
+    }
+}
+
+#[test]
+fn entries_would_not_be_answered(rt: HostRuntime) {
+    let alloc = rt.alloc();
+    let mut from = node(&rt, alloc, 2);
+    from.absorb(&batch(&rt, alloc, SECOND))
+        .ok()
+        .expect(&rt, "memory for pages");
+    let sent = from.send(bucket(7), None).ok().expect(&rt, "a message");
+    assert!(rt; asked(&rt, alloc, 4, &sent).as_slice().is_empty());
 }
 
 #[test]

@@ -2,7 +2,7 @@
 //! dump.
 ghost use Rattle.warm_concurrent.specs.Attached.{AreOf};
 
-use crate::kit::{batch, more, shared_of};
+use crate::kit::{batch, closed, more, shared_from, shared_of};
 use std::alloc::Global;
 use std::process::Abort;
 use std::sync::Wait;
@@ -14,6 +14,7 @@ use warm_concurrent::{Attached, SharedShards};
 use warm_devices::MemDevice;
 use warm_dump::{read_dump, write_dump};
 use warm_history::{History, PageHist};
+use warm_shards::Shards;
 use warm_stamps::PageId;
 
 type Shared = SharedShards<MemDevice>;
@@ -172,7 +173,7 @@ fn a_copy_has_the_horizon_of_the_shards(rt: HostRuntime) {
     let (mut first, own) = four_have_own(&rt, alloc, &shared, first);
     assert!(rt; own);
     let before = copied(&rt, alloc, &shared, &mut first);
-    assert!(rt; shared.raise(&rt, &mut first, 12).is_ok());
+    assert!(rt; shared.raise(&rt, &mut first, 12) == Ok(12));
     let copy = copied(&rt, alloc, &shared, &mut first);
     assert!(rt; copy.horizon() == 12 && copy.len() == 5);
     assert!(rt; copy.get(page(0)) == None && copy.get(page_on(1, 3)) == None);
@@ -180,6 +181,44 @@ fn a_copy_has_the_horizon_of_the_shards(rt: HostRuntime) {
     assert!(rt; copy.get(page(2)) == Some(twice((25, 4), (20, 1))));
     // The copy from before is as it was.
     assert!(rt; before.horizon() == 0 && before.get(page(0)) == Some(once(5, 2)));
+}
+
+#[test]
+fn a_raise_gives_the_horizon(rt: HostRuntime) {
+    let alloc = rt.alloc();
+    let (shared, mut first) = shared_of(&rt, alloc, 1, 4);
+    assert!(rt; shared.horizon(&rt, &mut first) == Ok(0));
+    assert!(rt; shared.raise(&rt, &mut first, 12) == Ok(12));
+    // An earlier time forgets nothing, and leaves the horizon.
+    assert!(rt; shared.raise(&rt, &mut first, 7) == Ok(12));
+    assert!(rt; shared.horizon(&rt, &mut first) == Ok(12));
+    assert!(rt; copied(&rt, alloc, &shared, &mut first).horizon() == 12);
+}
+
+#[test]
+fn shared_shards_are_of_their_replica(rt: HostRuntime) {
+    let alloc = rt.alloc();
+    for number in [1, 3, 64] {
+        let (shared, _first) = shared_of(&rt, alloc, number, 2);
+        assert!(rt; shared.id() == replica(number));
+    }
+}
+
+// A restart forgets at one point of the replica's history. So no thread shares the shards then.
+#[test]
+fn closed_shards_restart_and_are_shared_again(rt: HostRuntime) {
+    let alloc = rt.alloc();
+    let (shared, first) = shared_of(&rt, alloc, 1, 4);
+    let (mut first, own) = four_have_own(&rt, alloc, &shared, first);
+    assert!(rt; own);
+    assert!(rt; copied(&rt, alloc, &shared, &mut first).len() == 7);
+    let nodes = closed(&rt, alloc, shared, first);
+    let Ok(mut shards) = Shards::from_nodes(alloc, replica(1), nodes) else {
+        panic!(rt; "nodes of four shards")
+    };
+    assert!(rt; shards.restart().is_ok());
+    let (shared, mut first) = shared_from(&rt, alloc, shards);
+    assert!(rt; copied(&rt, alloc, &shared, &mut first).is_empty());
 }
 
 // A history that absorbed the batches of all four threads.

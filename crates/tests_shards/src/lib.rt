@@ -13,6 +13,8 @@ mod engine_shared;
 #[cfg(test)]
 mod filled_shared;
 #[cfg(test)]
+mod flushed_shared;
+#[cfg(test)]
 mod forming;
 #[cfg(test)]
 mod gossip_shared;

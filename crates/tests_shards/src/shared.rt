@@ -111,7 +111,7 @@ fn pages_of_all_shards_are_written_back(rt: HostRuntime) {
     assert!(rt; is_written(&rt, alloc, &shared, &mut first, 1));
     assert!(rt; is_written(&rt, alloc, &shared, &mut first, 2));
     assert!(rt; is_written(&rt, alloc, &shared, &mut first, 5));
-    assert!(rt; shared.write_back(&rt, &mut first).is_ok());
+    assert!(rt; shared.write_back_all(&rt, &mut first).is_ok());
     assert!(rt; dirty(&closed(&rt, alloc, shared, first)) == 0);
 }
 
@@ -120,7 +120,7 @@ fn pages_stay_dirty_until_they_are_written_back(rt: HostRuntime) {
     let alloc = rt.alloc();
     let (shared, mut first) = shared_of(&rt, alloc, 1, 4);
     assert!(rt; is_written(&rt, alloc, &shared, &mut first, 1));
-    assert!(rt; shared.write_back(&rt, &mut first).is_ok());
+    assert!(rt; shared.write_back_all(&rt, &mut first).is_ok());
     assert!(rt; is_written(&rt, alloc, &shared, &mut first, 2));
     assert!(rt; is_written(&rt, alloc, &shared, &mut first, 5));
     assert!(rt; dirty(&closed(&rt, alloc, shared, first)) == 2);
@@ -165,7 +165,7 @@ fn what_is_sent_brings_the_history(rt: HostRuntime) {
     let (shared, mut first) = shared_of(&rt, alloc, 1, 4);
     let (others, mut there) = shared_of(&rt, alloc, 1, 2);
     assert!(rt; shared.absorb(&rt, alloc, &mut first, &given).is_ok());
-    assert!(rt; shared.raise(&rt, &mut first, 6).is_ok());
+    assert!(rt; shared.raise(&rt, &mut first, 6) == Ok(6));
     for bucket in Bucket::all() {
         assert!(rt; is_passed_on(&rt, alloc, &shared, &mut first, &others, &mut there, bucket));
     }

@@ -364,7 +364,7 @@ fn what_eight_threads_wrote_is_written_back(rt: HostRuntime) {
     let (shared, first) = shared_over(&rt, alloc, &[0; 16]);
     let (mut first, count) = served_by_eight(&rt, alloc, &shared, first, 0);
     assert!(rt; count == 2048 && first.pins() == 0);
-    assert!(rt; shared.write_back(&rt, &mut first).is_ok());
+    assert!(rt; shared.write_back_all(&rt, &mut first).is_ok());
     assert!(rt; left_so(&rt, &shared, &mut first, 8) == PAGES);
     let nodes = closed(&rt, alloc, shared, first);
     assert!(rt; know_all(&rt, alloc, &nodes, 8) && dirty(&nodes) == 0);

@@ -4,16 +4,16 @@ ghost use Rattle.std.specs.Prelude.{◌≡◌, List, map, Ok};
 ghost use Rattle.warm_history.specs.Histories.{StandsFor};
 ghost use Rattle.warm_history.specs.ReferenceSets.{ReferenceSet, set_of_list, ◌∪◌};
 ghost use Rattle.warm_gossip.specs.State.{NodeState};
-ghost use Rattle.warm_shards.specs.Shards.{AreShards, whole};
+ghost use Rattle.warm_shards.specs.Shards.{whole};
 
-use crate::kit::{batch, nodes};
+use crate::kit::{batch, shards};
 use std::alloc::Global;
 use std::process::Abort;
 use std::sync::Wait;
-use test_kit::{SeenAt, are_equal, history_of, replica};
+use test_kit::{SeenAt, are_equal, history_of};
 use warm_concurrent::Sharing;
 use warm_concurrent::laws::threads_give;
-use warm_devices::{MemDevice, PageDevice};
+use warm_devices::PageDevice;
 use warm_gossip::Node;
 use warm_history::History;
 use warm_shards::Shards;
@@ -30,11 +30,12 @@ pub(crate) fn two_absorb<D: PageDevice + Send, R: Wait + Abort>(
     one: &[Reference],
     two: &[Reference],
 ) -> Vec<Result<Node<D>, Busy>>
-    requires { AreShards shards }
     ensures { (S : ReferenceSet) → StandsFor (whole shards) S
         → (nodes : List NodeState) × (result.items ≡ map (λ n. Ok n) nodes)
         × StandsFor (whole nodes) (S ∪ (set_of_list one.now ∪ set_of_list two.now)) }
 {
+    // What the law requires: its contract says that these are shards.
+    let _count = shards.count();
     let Ok(sharing) = Sharing::new(alloc, shards) else {
         panic!(rt; "memory for shards")
     };
@@ -58,16 +59,6 @@ pub(crate) fn two_absorb<D: PageDevice + Send, R: Wait + Abort>(
     };
     threads_give();
     nodes
-}
-
-// Four shards of replica 1, just opened.
-fn four_shards(rt: &impl Abort, alloc: Global) -> Shards<MemDevice>
-    ensures { AreShards result }
-{
-    let Ok(shards) = Shards::new(alloc, replica(1), nodes(rt, alloc, 1, 4)) else {
-        panic!(rt; "no shards")
-    };
-    shards
 }
 
 // What each thread absorbs. Where there are four shards, page 65 is of shard 1, page 63 of shard 3,
@@ -99,7 +90,7 @@ fn nodes_hold_what_both_threads_absorbed(rt: HostRuntime) {
     let alloc = rt.alloc();
     let one = batch(&rt, alloc, ONE);
     let two = batch(&rt, alloc, TWO);
-    let ends = two_absorb(&rt, alloc, four_shards(&rt, alloc), &one, &two);
+    let ends = two_absorb(&rt, alloc, shards(&rt, alloc, 1, 4), &one, &two);
     assert!(rt; ends.len() == 4);
     let mut wanted = history_of(alloc, ONE).expect(&rt, "memory for a history");
     let _changed = wanted.absorb(&two).expect(&rt, "memory for entries");

@@ -1,5 +1,5 @@
-//! A page of shared shards that is written back, and a device of a shard that is flushed, each in one
-//! turn of its shard, also where the device fails.
+//! A page of shared shards that is written back, all pages of a shard that are, and a device of a
+//! shard that is flushed, each in one turn of its shard, also where the device fails.
 ghost use Rattle.warm_concurrent.specs.Attached.{AreOf};
 
 use crate::kit::{closed, dirty, over, shared_from};
@@ -46,6 +46,23 @@ fn flushed<R: Wait>(
     Ok(())
 }
 
+// Writes back all of a shard.
+fn written<R: Wait>(
+    rt: &R,
+    shared: &Shared,
+    thread: &mut Thread,
+    shard: usize,
+) -> Result<(), SharedFault>
+    requires { AreOf shared.now thread.old.passes }
+    ensures { AreOf shared.now thread.new.passes }
+{
+    if shard >= shared.count() {
+        return Ok(());
+    }
+    shared.write_back(rt, thread, shard)?;
+    Ok(())
+}
+
 // Makes pages 1 to 4 dirty.
 fn are_put<R: Wait>(rt: &R, shared: &Shared, thread: &mut Thread) -> bool
     requires { AreOf shared.now thread.old.passes }
@@ -81,5 +98,30 @@ fn a_device_of_a_shard_is_flushed(rt: HostRuntime) {
     assert!(rt; flushed(&rt, &shared, &mut first, 1, 0) == Err(FAULT));
     assert!(rt; flushed(&rt, &shared, &mut first, 1, 0) == Ok(()));
     assert!(rt; shared.write_back_page(&rt, &mut first, page(1)) == Ok(false));
+    assert!(rt; dirty(&closed(&rt, alloc, shared, first)) == 2);
+}
+
+#[test]
+fn one_shard_is_written_back(rt: HostRuntime) {
+    let alloc = rt.alloc();
+    // The device of shard 1 reads two pages; the write of the second one fails once.
+    let (shared, mut first) = two_over(&rt, alloc, 4);
+    assert!(rt; are_put(&rt, &shared, &mut first));
+    assert!(rt; written(&rt, &shared, &mut first, 1) == Err(FAULT));
+    assert!(rt; shared.write_back_page(&rt, &mut first, page(1)) == Ok(false));
+    assert!(rt; written(&rt, &shared, &mut first, 1) == Ok(()));
+    assert!(rt; shared.write_back_page(&rt, &mut first, page(3)) == Ok(false));
+    assert!(rt; dirty(&closed(&rt, alloc, shared, first)) == 2);
+}
+
+#[test]
+fn a_shard_that_is_written_back_is_flushed(rt: HostRuntime) {
+    let alloc = rt.alloc();
+    // The device of shard 1 reads two pages and writes them; its flush fails once.
+    let (shared, mut first) = two_over(&rt, alloc, 5);
+    assert!(rt; are_put(&rt, &shared, &mut first));
+    assert!(rt; written(&rt, &shared, &mut first, 1) == Err(FAULT));
+    assert!(rt; shared.write_back_page(&rt, &mut first, page(1)) == Ok(false));
+    assert!(rt; written(&rt, &shared, &mut first, 1) == Ok(()));
     assert!(rt; dirty(&closed(&rt, alloc, shared, first)) == 2);
 }

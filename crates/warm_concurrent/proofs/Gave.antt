@@ -8,7 +8,7 @@ use Rattle.warm_frames.specs.declared.message.Message.{Message}
 use Rattle.warm_frames.specs.declared.message.Message.TheVariants.{Entries, Digest, Want}
 use Rattle.warm_machine.specs.Runs.{operation}
 use Rattle.warm_peer.specs.Answers.{refs_in}
-use Rattle.warm_shards.specs.Parts.{part_of_message}
+use Rattle.warm_shards.specs.Parts.{part_of_batch, part_of_message}
 use Rattle.warm_shards.specs.Shards.{IsShardCount, of_shard}
 use Rattle.warm_shards.proofs.Absorbing.{some_count}
 use Rattle.warm_shards.proofs.WholeParts.{message_part}
@@ -25,7 +25,7 @@ use Rattle.warm_concurrent.specs.Gossip.{Compares, ShardsReceive, ShardsTakeDige
 use Rattle.warm_concurrent.specs.Gossip.{ShardsTakeRequest}
 use Rattle.warm_concurrent.specs.Laws.{all_of}
 use Rattle.warm_concurrent.specs.Whole.{AbsorbsFirst, AbsorbsPart, First, RaisesFirst, RaisesShard}
-use Rattle.warm_concurrent.specs.Whole.{TakesFirst, TakesPart, part_call, part_of}
+use Rattle.warm_concurrent.specs.Whole.{TakesFirst, TakesPart, part_call}
 use Rattle.warm_concurrent.proofs.Places.{push_each}
 use Rattle.warm_concurrent.proofs.Sets.{all_of_push, gave_append, sum, sum_is, union_none}
 
@@ -147,12 +147,12 @@ all_given S old new count each =
 
 absorb_gives : (count : ℕ) (batch : List Reference) (i : ℕ) (old new : ShardPass)
     → AbsorbsPart count batch i old new → Gives (of_shard count i (set_of_list batch)) old new
-absorb_gives count batch i old new so = cases (part_of count i batch) refl
+absorb_gives count batch i old new so = cases (part_of_batch count i batch) refl
   where
-    cases : (part : List Reference) → part_of count i batch ≡ part
-        → Gives (set_of_list (part_of count i batch)) old new
-    cases [] is = gives_as (set_of_list []) (set_of_list (part_of count i batch)) old new (ap set_of_list (sym is)) (gives_none old new (so.0 is))
-    cases (r ∷ rs) is = gives_called old new (Absorb (part_of count i batch)) Done (so.1 (λ none. let no : r ∷ rs ≡ [] = sym is ∙ none in absurd (cc)))
+    cases : (part : List Reference) → part_of_batch count i batch ≡ part
+        → Gives (set_of_list (part_of_batch count i batch)) old new
+    cases [] is = gives_as (set_of_list []) (set_of_list (part_of_batch count i batch)) old new (ap set_of_list (sym is)) (gives_none old new (so.0 is))
+    cases (r ∷ rs) is = gives_called old new (Absorb (part_of_batch count i batch)) Done (so.1 (λ none. let no : r ∷ rs ≡ [] = sym is ∙ none in absurd (cc)))
 
 pub absorbed_each : (batch : List Reference) (k : ℕ) (old new : List ShardPass)
     → AbsorbsFirst batch k old new

@@ -24,6 +24,7 @@ use Rattle.warm_gossip.proofs.Given.{told_is_history}
 use Rattle.warm_frames.specs.declared.message.Message.{Message}
 use Rattle.warm_frames.specs.declared.message.Message.TheVariants.{Entries}
 use Rattle.warm_stamps.specs.declared.Reference.{Reference}
+use Rattle.warm_shards.specs.Parts.{part_of_batch}
 use Rattle.warm_concurrent.specs.declared.call.ShardCall.{ShardCall}
 use Rattle.warm_concurrent.specs.declared.call.ShardCall.TheVariants.{Absorb, Answer, CopyHistory, Offer}
 use Rattle.warm_concurrent.specs.declared.call.ShardReply.{ShardReply}
@@ -36,7 +37,7 @@ use Rattle.warm_concurrent.specs.Clauses.{CallFails, Got}
 use Rattle.warm_concurrent.specs.Copying.{GivesCopy, no_history}
 use Rattle.warm_concurrent.specs.Laws.{CallsAreANodes, OnlySeesMore, OverCalls, SeesMore, ShardIsOfGiven, TogetherAreOfGiven, all_of, asked_steps, given_by_reply, given_by_step, given_by_steps, held_by, node_steps}
 use Rattle.warm_concurrent.specs.ShardSteps.{Asked, doing, looking, changing, CallGoes, NodeGoes, NodeStep, ShardState, ShardStep, Work, calling, writing_pages, writing_some, writing_page, writing_back, flushing, zeroing, filling, naming_next, forgetting, taking_in, answering, sending_since, copying, retiring, asked_of, node_reply_of}
-use Rattle.warm_concurrent.specs.Whole.{AbsorbsPart, Does, First, RaisesShard, TakesPart, part_call, part_of}
+use Rattle.warm_concurrent.specs.Whole.{AbsorbsPart, Does, First, RaisesShard, TakesPart, part_call}
 use Rattle.warm_concurrent.proofs.Places.{at_each}
 
 -- ---- the steps of a shard are a node's
@@ -261,11 +262,11 @@ module _ (P : ShardPass → ShardPass → Type 0) (self : (p : ShardPass) → P 
 
   part_so : (count : ℕ) (batch : List Reference) (i : ℕ) (old new : ShardPass)
       → AbsorbsPart count batch i old new → P old new
-  part_so count batch i old new so = cases (part_of count i batch) refl
+  part_so count batch i old new so = cases (part_of_batch count i batch) refl
     where
-      cases : (part : List Reference) → part_of count i batch ≡ part → P old new
+      cases : (part : List Reference) → part_of_batch count i batch ≡ part → P old new
       cases [] is = same_so old new (so.0 is)
-      cases (r ∷ rs) is = got old new (Absorb (part_of count i batch)) Done (so.1 (λ none. let no : r ∷ rs ≡ [] = sym is ∙ none in absurd (cc)))
+      cases (r ∷ rs) is = got old new (Absorb (part_of_batch count i batch)) Done (so.1 (λ none. let no : r ∷ rs ≡ [] = sym is ∙ none in absurd (cc)))
 
   -- a shard that has none of the requested buckets was not called
   answer_so : (count request : ℕ) (messages : List Message) (i : ℕ) (old new : ShardPass)

@@ -7,6 +7,7 @@ pub mod Ending
 pub mod Firsts
 pub mod Gathering
 pub mod Copies
+pub mod Raised
 pub mod Told
 pub mod Parts
 pub mod Requests

@@ -9,6 +9,7 @@ use Rattle.warm_history.specs.References.{IsIn}
 use Rattle.warm_history.specs.Histories.{references_of}
 use Rattle.warm_turn.specs.CallHistories.{marked}
 use Rattle.warm_peer.specs.Answers.{refs_in}
+use Rattle.warm_shards.specs.Parts.{part_of_batch}
 use Rattle.warm_shards.specs.Shards.{of_first_shards, of_shard, shard_of}
 use Rattle.warm_shards.proofs.Lists.{from_filter, in_both, in_filter, in_first, in_second}
 use Rattle.warm_concurrent.specs.declared.call.ShardCall.{ShardCall}
@@ -28,7 +29,7 @@ use Rattle.warm_concurrent.specs.Copying.{GivesCopy, no_history}
 use Rattle.warm_concurrent.specs.Given.{HasGiven, HasGivenNothing, SameGiven, ThreadsGive, gave_call, given_to_first, only_horizon, shards_given}
 use Rattle.warm_concurrent.specs.Answering.{AnswerFails, AnswersPart, OfferFails, Offers, offer_at, offer_reply}
 use Rattle.warm_concurrent.specs.Gossip.{DigestsStop, ReceiveStops, RequestStops}
-use Rattle.warm_concurrent.specs.Whole.{AbsorbFails, Does, RaiseFails, RaisesFirst, TakeFails, history_message, part_call, part_of}
+use Rattle.warm_concurrent.specs.Whole.{AbsorbFails, Does, RaiseFails, RaisesFirst, TakeFails, history_message, part_call}
 use Rattle.warm_concurrent.proofs.Gave.{EachGives, Gives, absorbed_each, all_given, answer_gives, as_given, gathered_each, given_as, given_by_sum, given_none, given_then, gives_as, gives_called, gives_none, message_each, none_twice, raised_each, taken_each}
 use Rattle.warm_concurrent.proofs.LawsHold.{below}
 use Rattle.warm_concurrent.proofs.Sets.{none_union, same_self, sum, union_none}
@@ -272,7 +273,7 @@ batch_stopped batch k why old new (inl none) =
     (stopped S 0 old old new (omega arith) (no_parts S old) (given_none (length old) old new none.2))
 batch_stopped batch k why old new (inr (mid, lt, part, absorbed, fails)) =
     stopped (set_of_list batch) k old mid new (omega (arith, lt)) (absorbed_each batch k old mid absorbed)
-    (fails_each mid new k (Absorb (part_of (length old) k batch)) why (λ w. refl) (omega (arith, lt, absorbed.count)) fails)
+    (fails_each mid new k (Absorb (part_of_batch (length old) k batch)) why (λ w. refl) (omega (arith, lt, absorbed.count)) fails)
 
 raise_stopped : (time k : ℕ) (why : SharedFault) (old new : List ShardPass)
     → RaiseFails time k why old new

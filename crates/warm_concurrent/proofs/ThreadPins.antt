@@ -9,6 +9,7 @@ use Rattle.warm_frames.specs.declared.message.Message.{Message}
 use Rattle.warm_machine.specs.Runs.{operation}
 use Rattle.warm_turn.specs.declared.table.EndedPass.{EndedPass}
 use Rattle.warm_turn.specs.CallHistories.{as_ended}
+use Rattle.warm_shards.specs.Parts.{part_of_batch}
 use Rattle.warm_concurrent.specs.declared.call.ShardCall.{ShardCall}
 use Rattle.warm_concurrent.specs.declared.call.ShardCall.TheVariants.{Absorb, Answer, CopyHistory, Offer, Pin, PinFilled, PinZeroed, Raise}
 use Rattle.warm_concurrent.specs.declared.call.ShardReply.{ShardReply}
@@ -22,7 +23,7 @@ use Rattle.warm_concurrent.specs.Copying.{GivesCopy, no_history}
 use Rattle.warm_concurrent.specs.Given.{Log}
 use Rattle.warm_concurrent.specs.Opening.{AreFirst, AreHalved, AreSplit, PassesAreJoined}
 use Rattle.warm_concurrent.specs.Pins.{CallsPin, HasPinned, IsCounted, PinsAreCounted, calls_held, pin_by, thread_calls, unpin_by}
-use Rattle.warm_concurrent.specs.Whole.{AbsorbsPart, Does, First, RaisesShard, TakesPart, part_call, part_of}
+use Rattle.warm_concurrent.specs.Whole.{AbsorbsPart, Does, First, RaisesShard, TakesPart, part_call}
 use Rattle.warm_concurrent.proofs.LawsHold.{below}
 use Rattle.warm_concurrent.proofs.LogPins.{total}
 use Rattle.warm_concurrent.proofs.StepPins.{pin_refused, unpin_refused}
@@ -172,11 +173,11 @@ quiet_firsts So quiet k old new so =
 
 absorb_quiet : (count : ℕ) (batch : List Reference) (i : ℕ) (p q : ShardPass)
     → AbsorbsPart count batch i p q → IsQuiet p q
-absorb_quiet count batch i p q so = cases (part_of count i batch) refl
+absorb_quiet count batch i p q so = cases (part_of_batch count i batch) refl
   where
-    cases : (part : List Reference) → part_of count i batch ≡ part → IsQuiet p q
+    cases : (part : List Reference) → part_of_batch count i batch ≡ part → IsQuiet p q
     cases [] is = inl (so.0 is)
-    cases (r ∷ rs) is = inr (Absorb (part_of count i batch), Done, refl, refl, so.1 (λ none. let no : r ∷ rs ≡ [] = sym is ∙ none in absurd (cc)))
+    cases (r ∷ rs) is = inr (Absorb (part_of_batch count i batch), Done, refl, refl, so.1 (λ none. let no : r ∷ rs ≡ [] = sym is ∙ none in absurd (cc)))
 
 answer_quiet : (count request : ℕ) (messages : List Message) (i : ℕ) (p q : ShardPass)
     → AnswersPart count request messages i p q → IsQuiet p q

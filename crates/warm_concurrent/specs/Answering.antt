@@ -70,7 +70,7 @@ abbrev pub GathersAll : Offered → List ShardPass → List ShardPass → Type 0
 GathersAll all old new = (offers : List Offered) × OffersFirst offers (length old) old new
     × IsGathered offers all
 
--- the same of the message of what they offer together
+-- each shard made an offer in one turn, and this is the message of what they offer together
 abbrev pub OffersAll : Message → List ShardPass → List ShardPass → Type 0
 OffersAll message old new = (all : Offered) × (message ≡ offer_message all)
     × GathersAll all old new

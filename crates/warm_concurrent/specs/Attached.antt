@@ -8,13 +8,15 @@ use Rattle.warm_concurrent.specs.declared.call.ShardCall.{ShardCall}
 use Rattle.warm_concurrent.specs.declared.call.ShardReply.{ShardReply}
 use Rattle.warm_concurrent.specs.ShardSteps.{ShardState, no_state}
 
--- the turn of a shard, the pass of one, and what a pass knows
+-- the turn of a shard
 abbrev pub ShardTurn : Type 0
 ShardTurn = TurnView ShardState
 
+-- a pass of a shard's turn
 abbrev pub ShardPass : Type 0
 ShardPass = PassView ShardState ShardCall ShardReply
 
+-- what a pass of a shard's turn knows of the shard
 abbrev pub Known : Type 0
 Known = View ShardState ShardCall ShardReply
 
@@ -31,16 +33,19 @@ no_table =
       slot_names = [];
     }
 
+-- the turn that is read at a number that no shard has
 abbrev pub no_turn : ShardTurn
 no_turn = turn_at no_table no_state
 
+-- the pass that is read at a number that no shard has
 abbrev pub no_pass : ShardPass
 no_pass = record { table = no_table; view = nobody }
 
--- the turn of the shard of this number, and the pass of it
+-- the turn of the shard of this number
 abbrev pub shard_turn : List ShardTurn → ℕ → ShardTurn
 shard_turn turns i = slice_index_or turns i no_turn
 
+-- the pass of the shard of this number
 abbrev pub shard_pass : List ShardPass → ℕ → ShardPass
 shard_pass passes i = slice_index_or passes i no_pass
 
@@ -68,6 +73,10 @@ pub record AreTurns (turns : List ShardTurn) : Type 0 where
   pub count : IsShardCount (length turns)
   pub counts : (i : ℕ) → i < length turns → (shard_turn turns i).opening.count ≡ length turns
   pub numbers : (i : ℕ) → i < length turns → (shard_turn turns i).opening.number ≡ i
+
+-- each shard opened with a node of the replica of this number
+pub record OpenedAs (id : ℕ) (turns : List ShardTurn) : Type 0 where
+  pub each : (i : ℕ) → i < length turns → (shard_turn turns i).opening.node.id ≡ id
 
 -- every pass but that of this shard is unchanged
 abbrev pub KeepsOtherPasses : List ShardPass → ℕ → List ShardPass → Type 0

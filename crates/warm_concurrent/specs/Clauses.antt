@@ -17,11 +17,11 @@ use Rattle.warm_concurrent.specs.ShardSteps.{IsOwn, NodeGoes, ShardStep, asked_o
 
 -- Calls of one shard
 
--- the shard answered the call so, in one turn
+-- the shard answered the call with this reply, in one turn
 abbrev pub Got : Known → ShardCall → ShardReply → Known → Type 0
 Got old call reply new = Called ShardStep old call reply new
 
--- the shard of this number answered the call so, in one turn, and no other was entered
+-- the shard of this number answered the call with this reply, in one turn, and no other was entered
 abbrev pub AnsweredByShard : List ShardPass → ℕ → ShardCall → ShardReply → List ShardPass → Type 0
 AnsweredByShard old i call reply new = Got (known_of old i) call reply (known_of new i)
     × KeepsOtherPasses old i new
@@ -30,7 +30,7 @@ AnsweredByShard old i call reply new = Got (known_of old i) call reply (known_of
 abbrev pub Spent : List ShardPass → ℕ → List ShardPass → Type 0
 Spent old i new = (known_of new i ≡ marked (known_of old i)) × KeepsOtherPasses old i new
 
--- the shard of this number refused the call so, or no ticket was left for it
+-- the shard of this number refused the call for this reason, or no ticket was left for it
 abbrev pub CallFails : List ShardPass → ℕ → ShardCall → SharedFault → List ShardPass → Type 0
 CallFails old i call (Node why) new = AnsweredByShard old i call (Refused why) new
 CallFails old i call TurnsSpent new = Spent old i new
@@ -42,8 +42,8 @@ abbrev pub CallEnds : {T : Type 0} → List ShardPass → ℕ → ShardCall → 
 CallEnds old i call reply (Ok given) new = AnsweredByShard old i call (reply given) new
 CallEnds old i call reply (Err why) new = CallFails old i call why new
 
--- the same of a call with a slot: where there is no such shard the slot is stale, and no turn was
--- entered
+-- the result of a call with a slot corresponds to the reply of the slot's shard, or to its refusal;
+-- where there is no such shard the slot is stale, and no turn was entered
 abbrev pub SlotCallEnds : {T : Type 0} → List ShardPass → ℕ → ShardCall → (T → ShardReply)
     → Result T SharedFault → List ShardPass → Type 0
 SlotCallEnds old i call reply result new =

@@ -1,6 +1,8 @@
--- A copy of the history of all shards: shard by shard.
+-- A copy of the history of all shards, shard by shard, and the hottest pages of it.
 use Rattle.std.specs.Prelude.{◌≡◌, ◌⊎◌, ℕ, ◌<◌, ◌≤◌, List, [], ◌∷◌, length}
-use Rattle.warm_history.specs.Histories.{HistoryView, history_of_entries, join}
+use Rattle.warm_stamps.specs.declared.PageId.{PageId}
+use Rattle.warm_history.specs.Histories.{HistoryView, history_of_entries, join, references_of}
+use Rattle.warm_rank.specs.Ranking.{hottest_pages}
 use Rattle.warm_gossip.specs.declared.fault.NodeFault.TheVariants.{Memory}
 use Rattle.warm_concurrent.specs.declared.call.ShardCall.TheVariants.{CopyHistory}
 use Rattle.warm_concurrent.specs.declared.call.ShardReply.TheVariants.{Copied}
@@ -36,10 +38,15 @@ abbrev pub CopiesAll : HistoryView → List ShardPass → List ShardPass → Typ
 CopiesAll copy old new = (copies : List HistoryView) × CopiesFirst copies (length old) old new
     × (copy ≡ join_of copies)
 
--- The shards below k gave copies. Then no memory was left to join them; or the shard k refused to
--- copy its history, or found no ticket.
+-- The shards below k gave copies. Then no memory was left to join them, or to list pages of the join;
+-- or the shard k refused to copy its history, or found no ticket.
 abbrev pub CopyFails : ℕ → SharedFault → List ShardPass → List ShardPass → Type 0
 CopyFails k why old new = (copies : List HistoryView) × (mid : List ShardPass)
     × CopiesFirst copies k old mid
     × (((k ≤ length old) × (why ≡ Node Memory) × (new ≡ mid))
     ⊎ ((k < length old) × CallFails mid k CopyHistory why new))
+
+-- each shard gave a copy of its history in one turn, and these are the n hottest pages of their join
+abbrev pub ListsAll : ℕ → List PageId → List ShardPass → List ShardPass → Type 0
+ListsAll n pages old new = (copy : HistoryView) × CopiesAll copy old new
+    × (pages ≡ hottest_pages (references_of copy) n)

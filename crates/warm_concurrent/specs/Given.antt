@@ -47,7 +47,7 @@ use Rattle.warm_concurrent.specs.Whole.{RaiseFails, RaisesFirst}
 
 -- Sets of references
 
--- the same references, whatever their order, at the same horizon
+-- S and T have the same references, whatever their order, at the same horizon
 pub record SameGiven (S T : ReferenceSet) : Type 0 where
   pub horizon : S.horizon ≡ T.horizon
   pub there : (r : Reference) → IsIn r S.given → IsIn r T.given
@@ -100,6 +100,8 @@ pub record IsLog (turn : ShardTurn) (known : Known) (node : NodeState) (log : Lo
       → calls_by e.number log ≡ e.calls
   pub all : IsWhole known.share → EachIsBy (HoldsNumber known) log
 
+-- the logs of the closed shards, one for each: a legal list of its calls, from its opening to the
+-- node that is given back
 pub record AreLogs (turns : List ShardTurn) (passes : List ShardPass) (nodes : List NodeState)
     (logs : List Log) : Type 0 where
   pub count : length logs ≡ length turns
@@ -119,18 +121,19 @@ SharedIsOfGiven = (S : ReferenceSet) (opened : List NodeState) (turns : List Sha
 
 -- What a thread gave
 
--- the calls that a thread has made of each shard since, in their order
+-- `more` are the calls that a thread has made of each shard from old to new, in their order
 pub record HasMade (old new : List ShardPass) (more : List Log) : Type 0 where
   pub count : length more ≡ length old
   pub numbers : (i : ℕ) → i < length old → (known_of new i).number ≡ (known_of old i).number
   pub each : (i : ℕ) → i < length old
       → (known_of new i).mine ≡ (known_of old i).mine ++ log_at more i
 
--- together these gave just the references of S, at its horizon
+-- together the calls that a thread has made from old to new gave just the references of S, at its
+-- horizon
 abbrev pub HasGiven : ReferenceSet → List ShardPass → List ShardPass → Type 0
 HasGiven S old new = (more : List Log) × HasMade old new more × SameGiven (gave_together more) S
 
--- together they gave nothing
+-- together the calls that a thread has made from old to new gave no reference and no horizon
 abbrev pub HasGivenNothing : List ShardPass → List ShardPass → Type 0
 HasGivenNothing old new = HasGiven (set_of_list []) old new
 
@@ -139,7 +142,7 @@ abbrev pub given_to_first : ℕ → ℕ → ReferenceSet → ReferenceSet
 given_to_first count zero S = set_of_list []
 given_to_first count (suc k) S = of_first_shards count (suc k) S
 
--- how many of these shards have their part of a message, where its receipt stopped so
+-- how many of `count` shards have their part of a message whose receipt stopped for this reason
 abbrev pub shards_given : ℕ → NotReceived → ℕ
 shards_given count (Raising at) = at.shard
 shards_given count (Taking at) = at.shard
@@ -184,6 +187,7 @@ pub record CallsAreGiven (old new : List ShardPass) : Type 0 where
   pub copied : (copies : List HistoryView) (k : ℕ) → CopiesFirst copies k old new
       → HasGivenNothing old new
 
+-- each call of a thread, over any number of shards, gives what `CallsAreGiven` says
 abbrev pub ThreadsGive : Type 0
 ThreadsGive = (old new : List ShardPass) → IsShardCount (length old) → CallsAreGiven old new
 

@@ -81,7 +81,7 @@ ShardsReceive (Digest sender horizon digests) messages old new =
 ShardsReceive (Want sender horizon request) messages old new =
     ShardsTakeRequest horizon request messages old new
 
--- where taking it in stopped
+-- where the shards' receipt of a message stopped
 abbrev pub ReceiveStops : Message → NotReceived → List ShardPass → List ShardPass → Type 0
 ReceiveStops (Entries sender horizon entries) (Taking at) old new =
     TakeFails (Entries sender horizon entries) at.shard at.fault old new

@@ -59,19 +59,21 @@ abbrev pub CallsAreANodes : Type 0
 CallsAreANodes = (opening last : ShardState) (calls : List (Operation ShardCall ShardReply))
     → Runs ShardStep opening calls last → Runs NodeStep opening.node (node_steps calls) last.node
 
--- the references that a node was given, after one step with this reply: by a call of it, or by
--- entries that it took in
+-- the references that a node was given, from these on, after a call with this reply; a reply that
+-- is not a node's gives none
 abbrev pub given_by_reply : ReferenceSet → Call → Option Reply → ReferenceSet
 given_by_reply S call None = S
 given_by_reply S call (Some reply) = given_by_call S call reply
 
+-- the references that a node was given, from these on, after one step with this reply: a call of
+-- the node, or entries that it took in; another step adds none
 abbrev pub given_by_step : ReferenceSet → Work → ShardReply → ReferenceSet
 given_by_step S (calling call) reply = given_by_reply S call (node_reply_of reply)
 given_by_step S (taking_in horizon entries) Done =
     S ∪ references_of (history_of_entries_at horizon entries)
 given_by_step S work reply = S
 
--- the references that it was given by these steps, from these on
+-- the references that a node was given by these steps, from these references on
 abbrev pub given_by_steps : ReferenceSet → List (Operation Work ShardReply) → ReferenceSet
 given_by_steps S [] = S
 given_by_steps S (e ∷ es) = given_by_steps (given_by_step S e.call e.reply) es
@@ -105,11 +107,12 @@ pub record ShardsHoldTheirPages : Type 0 where
 
 -- All shards
 
--- the references that histories hold, together; and all these references
+-- the references that histories hold, together
 abbrev pub held_by : List HistoryView → ReferenceSet
 held_by [] = set_of_list []
 held_by (h ∷ hs) = references_of h ∪ held_by hs
 
+-- the references of these sets, together
 abbrev pub all_of : List ReferenceSet → ReferenceSet
 all_of [] = set_of_list []
 all_of (S ∷ Ss) = S ∪ all_of Ss
@@ -132,9 +135,9 @@ TogetherAreOfGiven = (hs : List HistoryView) (Ss : List ReferenceSet) → StandF
 abbrev pub SeesMore : List ShardPass → List ShardPass → Type 0
 SeesMore old new = (i : ℕ) → i < length old → IsPrefix (known_of old i).seen (known_of new i).seen
 
--- So it is of what a thread has, before and after each call of one shard, also if it is refused, and
--- each call of several shards. One of these that stops at a shard is such a call of the shards
--- before, and one that is refused.
+-- `So` holds of what a thread has, before and after each call of one shard, also if it is refused,
+-- and each call of several shards. A call of several shards that stops at one is such a call of the
+-- shards before, and a refused call of that one.
 pub record OverCalls (So : List ShardPass → List ShardPass → Type 0) : Type 0 where
   pub called : (old new : List ShardPass) (i : ℕ) (call : ShardCall) (reply : ShardReply)
       → i < length old → AnsweredByShard old i call reply new → So old new

@@ -9,7 +9,9 @@ pub mod Laws
 pub mod Rights
 pub mod Given
 pub mod Answering
+pub mod Raising
 pub mod Copying
+pub mod Asking
 pub mod Retiring
 pub mod Filling
 pub mod Gossip

@@ -31,11 +31,12 @@ openings turns = map (λ t. t.opening) turns
 abbrev pub state_at : List ShardState → ℕ → ShardState
 state_at shards i = slice_index_or shards i no_state
 
--- all shards of a replica, each with its number
-pub record AreNumbered (shards : List ShardState) : Type 0 where
+-- all shards of the replica of this number, each with its own
+pub record AreNumbered (id : ℕ) (shards : List ShardState) : Type 0 where
   pub count : IsShardCount (length shards)
   pub counts : (i : ℕ) → i < length shards → (state_at shards i).count ≡ length shards
   pub numbers : (i : ℕ) → i < length shards → (state_at shards i).number ≡ i
+  pub ids : (i : ℕ) → i < length shards → (state_at shards i).node.id ≡ id
 
 -- the passes are the first ones of their turns: they have seen nothing and called nothing
 pub record AreFirst (turns : List ShardTurn) (passes : List ShardPass) : Type 0 where
@@ -44,10 +45,12 @@ pub record AreFirst (turns : List ShardTurn) (passes : List ShardPass) : Type 0 
   pub views : (i : ℕ) → i < length turns
       → known_of passes i ≡ first_pass (shard_turn turns i).opening
 
--- a pass has seen what this one has, with a number of its own, and made no call
+-- a new pass has seen what the old one has, with a number of its own, and made no call
 abbrev pub IsSplit : Known → Known → Type 0
 IsSplit old new = (n : ℕ) × (new ≡ new_pass old n) × (calls_by n old.seen ≡ [])
 
+-- of each shard a new pass has seen what the old one has, with a number of its own, and made no
+-- call
 pub record AreSplit (old new : List ShardPass) : Type 0 where
   pub count : length new ≡ length old
   pub each : (i : ℕ) → i < length old → IsSplit (known_of old i) (known_of new i)
@@ -77,6 +80,8 @@ ClosesShard turn known (Ok node) = (s : ShardState) × (s.node ≡ node)
 ClosesShard turn known (Err busy) = (busy.serving < busy.ticket) × MarkShows known busy
     × (¬ IsWhole known.share) × AreWords (λ (s : ShardState). s) ShardStep turn.opening known busy
 
+-- Each shard was closed: its node is in a state that a legal history reaches, or the node is lost,
+-- as the pass did not have the whole right to close and a call was under way.
 pub record AreClosed (turns : List ShardTurn) (passes : List ShardPass)
     (nodes : List (Result NodeState Busy)) : Type 0 where
   pub count : length nodes ≡ length turns

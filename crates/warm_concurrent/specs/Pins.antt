@@ -56,13 +56,15 @@ use Rattle.warm_concurrent.specs.Whole.{AbsorbsFirst, DoneFirst, RaisesFirst, Ta
 
 -- Pools
 
--- the pins of all frames of a pool: of that of a node, and of those of these nodes together
+-- the pins of all these frames
 abbrev pub pins_in : List FrameView → ℕ
 pins_in frames = sum_by (λ f. f.fixes) frames
 
+-- the pins of a node's pool
 abbrev pub pool_pins : NodeState → ℕ
 pool_pins node = pins_in (view_of node.pool).frames
 
+-- the pins of the pools of these nodes, together
 abbrev pub all_pins : List NodeState → ℕ
 all_pins nodes = sum_by pool_pins nodes
 
@@ -72,21 +74,23 @@ NoneIsPinned nodes = (i : ℕ) → i < length nodes → IsUnfixed (view_of (shar
 
 -- Calls
 
--- how many pins a call with this reply gave, and how many it removed
+-- how many pins a call with this reply gave
 abbrev pub pin_by : ShardCall → ShardReply → ℕ
 pin_by (Pin page) (Pinned slot) = 1
 pin_by (PinZeroed page) (Pinned slot) = 1
 pin_by (PinFilled page bytes) (Pinned slot) = 1
 pin_by call reply = 0
 
+-- how many pins a call with this reply removed
 abbrev pub unpin_by : ShardCall → ShardReply → ℕ
 unpin_by (Unpin slot) Done = 1
 unpin_by call reply = 0
 
--- how many these calls gave, and how many they removed
+-- how many pins these calls gave
 abbrev pub pins_by : Log → ℕ
 pins_by calls = sum_by (λ e. pin_by e.call e.reply) calls
 
+-- how many pins these calls removed
 abbrev pub unpins_by : Log → ℕ
 unpins_by calls = sum_by (λ e. unpin_by e.call e.reply) calls
 
@@ -96,8 +100,8 @@ LeadsTo before calls after = after + unpins_by calls ≡ before + pins_by calls
 
 -- One shard
 
--- the pins of its pool are those with which it opened and those that its calls gave, less those
--- that they removed
+-- the pins of a shard's pool are those with which it opened and those that its calls gave, less
+-- those that they removed
 abbrev pub PinsAreGiven : Type 0
 PinsAreGiven = (opening last : ShardState) (calls : Log) → IsPool opening.node.pool
     → Runs ShardStep opening calls last
@@ -109,7 +113,7 @@ PinsAreGiven = (opening last : ShardState) (calls : Log) → IsPool opening.node
 abbrev pub calls_held : Known → Log
 calls_held known = known.mine ++ flat_map (λ e. e.calls) known.ended
 
--- those of a thread, of all shards
+-- the calls of a thread, of all shards, and of the threads that were detached into it
 abbrev pub thread_calls : List ShardPass → Log
 thread_calls passes = flat_map (λ p. calls_held p.view) passes
 
@@ -117,7 +121,7 @@ thread_calls passes = flat_map (λ p. calls_held p.view) passes
 abbrev pub IsCounted : AttachedView → Type 0
 IsCounted thread = LeadsTo 0 (thread_calls thread.passes) thread.pins
 
--- the calls that a thread has since gave so many pins, and removed so many
+-- the calls that a thread has made from old to new gave and removed these numbers of pins
 pub record HasPinned (given removed : ℕ) (old new : List ShardPass) : Type 0 where
   pub pins : pins_by (thread_calls new) ≡ pins_by (thread_calls old) + given
   pub unpins : unpins_by (thread_calls new) ≡ unpins_by (thread_calls old) + removed

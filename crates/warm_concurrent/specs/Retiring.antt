@@ -14,8 +14,8 @@ use Rattle.warm_concurrent.specs.Attached.{ShardPass}
 use Rattle.warm_concurrent.specs.Clauses.{AnsweredByShard, Spent}
 use Rattle.warm_concurrent.specs.ToldDevices.{IsTold}
 
--- How it went, as the call and the reply say: the device was replaced, or the pool refused it with
--- the fault of this error
+-- How a replacement went, as the call and the reply say: the device was replaced, or the pool
+-- refused it with the fault of this error
 abbrev pub RetiresAs : {E : Type 0} → (E → PoolFault) → ℕ → DeviceState → Result Unit E → ShardCall
     → ShardReply → Type 0
 RetiresAs fault dev device (Ok done) call reply = (told : Tag) × IsTold told device
@@ -23,7 +23,8 @@ RetiresAs fault dev device (Ok done) call reply = (told : Tag) × IsTold told de
 RetiresAs fault dev device (Err e) call reply = (told : Tag) × IsTold told device
     × (call ≡ Retire dev told) × (reply ≡ Refused (Pool (fault e)))
 
--- the same of a device that was replaced, where the old one is given back, in this state
+-- How a replacement went, as the call and the reply say: the old device is given back, in this
+-- state, or the pool refused it with the fault of this error
 abbrev pub ReplacesAs : {D E : Type 0} → (D → DeviceState) → (E → PoolFault) → ℕ → DeviceState
     → Result D E → ShardCall → ShardReply → Type 0
 ReplacesAs state fault dev device (Ok was) call reply = (told : Tag) × (given : Tag)
@@ -38,12 +39,14 @@ abbrev pub RetiresAt : List ShardPass → ℕ → ℕ → DeviceState → List S
 RetiresAt old i dev device new = (told : Tag) × IsTold told device
     × AnsweredByShard old i (Retire dev told) Done new
 
--- the same, and the old device was given back, in this state
+-- the shard of this number replaced its device with one of this state, and gave the old one back,
+-- in its state, in one turn; no other was entered
 abbrev pub ReplacesAt : List ShardPass → ℕ → ℕ → DeviceState → DeviceState → List ShardPass → Type 0
 ReplacesAt old i dev device was new = (told : Tag) × (given : Tag) × IsTold told device
     × IsTold given was × AnsweredByShard old i (Retire dev told) (Replaced given) new
 
--- the shard refused to, with a fault of its pool; or no ticket was left
+-- the shard of this number refused to replace its device, with a fault of its pool; or no ticket
+-- was left
 abbrev pub RetireFailsAt : List ShardPass → ℕ → ℕ → DeviceState → SharedFault → List ShardPass
     → Type 0
 RetireFailsAt old i dev device (Node (Pool fault)) new = (told : Tag) × IsTold told device

@@ -34,7 +34,7 @@ Moves (p ∷ other ∷ []) (q ∷ []) = PassesAreJoined p other q
 Moves (p ∷ other ∷ []) (q ∷ r ∷ []) = (q ≡ other) × (r ≡ p)
 Moves old new = ⊥
 
--- these threads move, and all others have what they had
+-- these threads move, and all other threads have what they had
 pub record ThreadsMove (old new : Threads) : Type 0 where
   pub before : Threads
   pub after : Threads

@@ -184,7 +184,8 @@ IsOwn count number call = Unit {0}
 abbrev pub CallStep : NodeState → Call → Reply → NodeState → Type 0
 CallStep old call reply new = Goes old call reply new × DevicesAfter old call reply new
 
--- the same, if the reply is one of a node
+-- a call whose reply is one of a node: what a caller of the node sees of it, and what it leaves of
+-- devices and dirty flags
 abbrev pub CallGoes : NodeState → Call → Option Reply → NodeState → Type 0
 CallGoes old call None new = ⊥
 CallGoes old call (Some reply) new = CallStep old call reply new
@@ -198,7 +199,8 @@ WritePagesStep old (Refused why) new = NodeWriteBackFails old why new
     × SomeFails (length old.pool.frames) old.pool new.pool
 WritePagesStep old reply new = ⊥
 
--- the same of at most this many dirty pages, and how many are still dirty
+-- A caller of a node sees no write-back. At most `limit` dirty pages were written, and `left` pages
+-- are still dirty; or a write failed, after those of the pages before.
 abbrev pub WriteSomeStep : NodeState → ℕ → ShardReply → NodeState → Type 0
 WriteSomeStep old limit (Dirty left) new = SameView old new
     × WritesBackSome limit old.pool left new.pool
@@ -357,7 +359,8 @@ pub record Changes (old : NodeState) (page : PageId) (slot : Slot) (before after
 abbrev pub IsNotPinned : NodeState → PageId → NodeFault → NodeState → Type 0
 IsNotPinned old page why new = CallStep old (node_call.Pin page) (node_reply.Refused why) new
 
--- The step of a node that was asked so. A look and a change are refused as a pin of the page is.
+-- The step of a node that was asked to do some work, or to show or to change bytes of a page. A
+-- look and a change are refused as a pin of the page is.
 abbrev pub NodeGoes : NodeState → Asked → ShardReply → NodeState → Type 0
 NodeGoes old (doing work) reply new = NodeStep old work reply new
 NodeGoes old (looking page) (Looked slot bytes) new = Looks old page slot bytes.numbers new

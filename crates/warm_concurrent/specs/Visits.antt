@@ -14,17 +14,18 @@ use Rattle.warm_concurrent.specs.declared.visitors.Went.TheVariants as went
 use Rattle.warm_concurrent.specs.Attached.{ShardPass}
 use Rattle.warm_concurrent.specs.Clauses.{AnsweredByShard}
 
--- this is so of the bytes that the reply shows
+-- `so` holds of the bytes that the reply shows
 abbrev pub Shows : (List ℕ → Type 0) → ShardReply → Type 0
 Shows so (Looked slot bytes) = so bytes.numbers
 Shows so reply = ⊥
 
--- this is so of the bytes before and after that the reply shows
+-- `so` holds of the bytes before and after that the reply shows
 abbrev pub ShowsBoth : (List ℕ → List ℕ → Type 0) → ShardReply → Type 0
 ShowsBoth so (Changed slot before after) = so before.numbers after.numbers
 ShowsBoth so reply = ⊥
 
--- the reply of a visit that went so
+-- the reply of a visit: `so` holds of what it gave and the reply, or the node refused it, or the
+-- page is of another shard
 abbrev pub VisitWentAs : {T : Type 0} → (T → ShardReply → Type 0) → Went T → ShardReply → Type 0
 VisitWentAs so (went.Given given) reply = so given reply
 VisitWentAs so (went.Refused why) reply = reply ≡ Refused why
@@ -43,13 +44,14 @@ FillsAs (went.Given slot) reply = reply ≡ Pinned slot
 FillsAs (went.Refused why) reply = (reply ≡ Refused why) × (why ≢ Memory)
 FillsAs went.Foreign reply = reply ≡ Foreign
 
--- the shard of this number showed bytes of the page of which this is so, in one turn, and no other
+-- the shard of this number showed bytes of the page, of which `so` holds, in one turn, and no other
 -- was entered
 abbrev pub LooksAt : List ShardPass → ℕ → PageId → (List ℕ → Type 0) → List ShardPass → Type 0
 LooksAt old i page so new = (slot : Slot) × (bytes : Tag) × so bytes.numbers
     × AnsweredByShard old i (Look page) (Looked slot bytes) new
 
--- the same of a change, of the bytes before and after
+-- the shard of this number changed bytes of the page, of which before and after `so` holds, in one
+-- turn, and no other was entered
 abbrev pub ChangesPageAt : List ShardPass → ℕ → PageId → (List ℕ → List ℕ → Type 0) → List ShardPass
     → Type 0
 ChangesPageAt old i page so new = (slot : Slot) × (before : Tag) × (after : Tag)

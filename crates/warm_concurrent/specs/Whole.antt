@@ -1,5 +1,5 @@
 -- Calls of the whole: shard by shard, in the order of their numbers.
-use Rattle.std.specs.Prelude.{◌≡◌, ◌≢◌, ◌⊎◌, ℕ, ◌<◌, ◌≤◌, List, [], length, filter, nat_eq}
+use Rattle.std.specs.Prelude.{◌≡◌, ◌≢◌, ◌⊎◌, ℕ, ◌<◌, ◌≤◌, List, [], length}
 use Rattle.std.specs.Prelude.{slice_index_or}
 use Rattle.std.specs.Global.{Vec}
 use Rattle.warm_stamps.specs.declared.Reference.{Reference}
@@ -8,8 +8,7 @@ use Rattle.warm_frames.specs.declared.message.Message.{Message}
 use Rattle.warm_frames.specs.declared.message.Message.TheVariants.{Entries}
 use Rattle.warm_frames.specs.Limits.{entries_in, horizon_in}
 use Rattle.warm_gossip.specs.declared.fault.NodeFault.TheVariants.{Memory}
-use Rattle.warm_shards.specs.Parts.{part_of_entries}
-use Rattle.warm_shards.specs.Shards.{shard_of}
+use Rattle.warm_shards.specs.Parts.{part_of_batch, part_of_entries}
 use Rattle.warm_concurrent.specs.declared.call.ShardCall.TheVariants.{Absorb, Raise, TakeIn}
 use Rattle.warm_concurrent.specs.declared.call.ShardCall.TheVariants.{WritePages, WriteBack}
 use Rattle.warm_concurrent.specs.declared.call.ShardCall.{ShardCall}
@@ -21,22 +20,19 @@ use Rattle.warm_concurrent.specs.declared.fault.SharedFault.TheVariants.{Node}
 use Rattle.warm_concurrent.specs.Attached.{ShardPass, shard_pass}
 use Rattle.warm_concurrent.specs.Clauses.{CallFails, Got}
 
--- This is so of each shard below k, before and after. The passes of the others are unchanged.
+-- `So` holds of each shard below k, before and after. The passes of the others are unchanged.
 pub record First (So : ℕ → ShardPass → ShardPass → Type 0) (k : ℕ) (old new : List ShardPass)
     : Type 0 where
   pub count : length new ≡ length old
   pub first : (i : ℕ) → i < k → So i (shard_pass old i) (shard_pass new i)
   pub others : (i : ℕ) → k ≤ i → shard_pass new i ≡ shard_pass old i
 
--- The references of a batch to the pages of one shard, in order.
-abbrev pub part_of : ℕ → ℕ → List Reference → List Reference
-part_of count i batch = filter (λ r. nat_eq (shard_of count r.page) i) batch
-
 -- a shard absorbed its part of the batch in one turn. Where it has none, its turn was not entered
 abbrev pub AbsorbsPart : ℕ → List Reference → ℕ → ShardPass → ShardPass → Type 0
 AbsorbsPart count batch i old new =
-    (part_of count i batch ≡ [] → new ≡ old)
-    × (part_of count i batch ≢ [] → Got old.view (Absorb (part_of count i batch)) Done new.view)
+    (part_of_batch count i batch ≡ [] → new ≡ old)
+    × (part_of_batch count i batch ≢ []
+    → Got old.view (Absorb (part_of_batch count i batch)) Done new.view)
 
 -- the shards below k have absorbed their parts of the batch, and no other turn was entered
 abbrev pub AbsorbsFirst : List Reference → ℕ → List ShardPass → List ShardPass → Type 0
@@ -46,18 +42,19 @@ AbsorbsFirst batch k old new = First (AbsorbsPart (length old) batch) k old new
 -- ticket; or no memory was left for the parts, and nothing has changed. The others are unchanged.
 abbrev pub AbsorbFails : List Reference → ℕ → SharedFault → List ShardPass → List ShardPass → Type 0
 AbsorbFails batch k why old new = ((k ≡ 0) × (why ≡ Node Memory) × (new ≡ old))
-    ⊎ ((mid : List ShardPass) × (k < length old) × (part_of (length old) k batch ≢ [])
+    ⊎ ((mid : List ShardPass) × (k < length old) × (part_of_batch (length old) k batch ≢ [])
     × AbsorbsFirst batch k old mid
-    × CallFails mid k (Absorb (part_of (length old) k batch)) why new)
+    × CallFails mid k (Absorb (part_of_batch (length old) k batch)) why new)
 
 -- a shard forgot all stamps before this time
 abbrev pub RaisesShard : ℕ → ℕ → ShardPass → ShardPass → Type 0
 RaisesShard time i old new = (horizon : ℕ) × Got old.view (Raise time) (Kept horizon) new.view
 
+-- the shards below k forgot all stamps before this time, and no other turn was entered
 abbrev pub RaisesFirst : ℕ → ℕ → List ShardPass → List ShardPass → Type 0
 RaisesFirst time k old new = First (RaisesShard time) k old new
 
--- the shards below k forgot these, and the shard k found no ticket
+-- the shards below k forgot all stamps before this time, and the shard k found no ticket
 abbrev pub RaiseFails : ℕ → ℕ → SharedFault → List ShardPass → List ShardPass → Type 0
 RaiseFails time k why old new = (mid : List ShardPass) × (k < length old)
     × RaisesFirst time k old mid × CallFails mid k (Raise time) why new
@@ -87,10 +84,13 @@ TakeFails message k why old new = (mid : List ShardPass) × (k < length old)
 abbrev pub history_message : HistoryView → Message
 history_message h = Entries 0 h.horizon (entries_of h)
 
--- the same of the parts of a history, as of the message that would bring it
+-- the shards below k have taken in their parts of a history, as of the message that would bring it,
+-- and no other turn was entered
 abbrev pub JoinsFirst : HistoryView → ℕ → List ShardPass → List ShardPass → Type 0
 JoinsFirst h k old new = TakesFirst (history_message h) k old new
 
+-- Each shard below k has its part of the history. The shard k did not take its own in. The others
+-- are unchanged.
 abbrev pub JoinFails : HistoryView → ℕ → SharedFault → List ShardPass → List ShardPass → Type 0
 JoinFails h k why old new = TakeFails (history_message h) k why old new
 
@@ -98,7 +98,7 @@ JoinFails h k why old new = TakeFails (history_message h) k why old new
 pub record ArePartsOf (shards : ℕ) (batch : List Reference) (parts : List (Vec Reference)) : Type 0 where
   pub count : length parts ≡ shards
   pub each : (i : ℕ) (d : Vec Reference) → i < shards
-      → (slice_index_or parts i d).items ≡ part_of shards i batch
+      → (slice_index_or parts i d).items ≡ part_of_batch shards i batch
 
 -- Writing back
 
@@ -106,6 +106,7 @@ pub record ArePartsOf (shards : ℕ) (batch : List Reference) (parts : List (Vec
 abbrev pub Does : ShardCall → ℕ → ShardPass → ShardPass → Type 0
 Does call i old new = Got old.view call Done new.view
 
+-- the shards below k made this call, and no other turn was entered
 abbrev pub DoneFirst : ShardCall → ℕ → List ShardPass → List ShardPass → Type 0
 DoneFirst call k old new = First (Does call) k old new
 

@@ -191,7 +191,7 @@ impl<D: PageDevice + Send> SharedShards<D> {
                 attached,
             });
         };
-        let SharedShards { turns } = self;
+        let SharedShards { id: _, turns } = self;
         let Attached { passes, pins: _ } = attached;
         close_all(turns, passes, &mut nodes);
         Ok(nodes)

@@ -1,8 +1,10 @@
-//! A copy of the history of all shards: shard by shard.
+//! A copy of the history of all shards, shard by shard, and a list of its hottest pages.
 ghost use Rattle.std.specs.Prelude.{◌≡◌, ◌<◌, length, IfErr, IfOk};
+ghost use Rattle.warm_history.specs.Histories.{references_of};
+ghost use Rattle.warm_rank.specs.Ranking.{hottest_pages};
 ghost use Rattle.warm_concurrent.specs.Attached.{AreOf, AreTurns};
 ghost use Rattle.warm_concurrent.specs.Clauses.{CallEnds};
-ghost use Rattle.warm_concurrent.specs.Copying.{CopiesAll, CopyFails};
+ghost use Rattle.warm_concurrent.specs.Copying.{CopiesAll, CopyFails, ListsAll};
 ghost use Rattle.warm_concurrent.specs.declared.call.ShardCall.TheVariants.{CopyHistory};
 ghost use Rattle.warm_concurrent.specs.declared.call.ShardReply.TheVariants.{Copied};
 
@@ -17,6 +19,9 @@ use std::sync::Wait;
 use warm_devices::PageDevice;
 use warm_gossip::NodeFault;
 use warm_history::History;
+use warm_history::laws::prove_is_history;
+use warm_rank::warm_list;
+use warm_stamps::PageList;
 use warm_turn::{Pass, Turn};
 
 /// A history in a heap box, so that no reply has the room for a history in it. Contracts see the
@@ -75,7 +80,7 @@ fn copy_in<D: PageDevice + Send, R: Wait>(
 }
 
 // Has each shard copy its history, and joins the copies.
-fn copy_all<D: PageDevice + Send, R: Wait>(
+pub(crate) fn copy_all<D: PageDevice + Send, R: Wait>(
     rt: &R,
     alloc: Global,
     turns: &Vec<Turn<Shard<D>>>,
@@ -105,6 +110,41 @@ fn copy_all<D: PageDevice + Send, R: Wait>(
     Ok(all)
 }
 
+// The n hottest pages of a history.
+fn hottest_of(alloc: Global, history: &History, n: usize) -> Result<PageList, AllocError>
+    ensures { IfOk result (λ pages. pages ≡ hottest_pages (references_of history.now) n) }
+{
+    // The list is over the references that the history holds: their history is this history.
+    prove_is_history(history);
+    let pages = warm_list(alloc, history, n)?;
+    Ok(PageList::of(pages))
+}
+
+// Has each shard copy its history, and lists the hottest pages of all copies.
+fn list_all<D: PageDevice + Send, R: Wait>(
+    rt: &R,
+    alloc: Global,
+    turns: &Vec<Turn<Shard<D>>>,
+    passes: &mut Vec<Pass<Shard<D>>>,
+    n: usize,
+) -> Result<PageList, Stopped>
+    requires turns { AreTurns turns.now.items }
+    requires passes { AreOf turns.now.items passes.old.items }
+    ensures passes { AreOf turns.now.items passes.new.items }
+    ensures listed { IfOk result (λ pages. ListsAll n pages passes.old.items passes.new.items) }
+    ensures stopped { IfErr result (λ at. CopyFails at.shard at.fault passes.old.items
+        passes.new.items) }
+{
+    let copy = copy_all(rt, alloc, turns, passes)?;
+    let Ok(pages) = hottest_of(alloc, &copy, n) else {
+        return Err(Stopped {
+            fault: SharedFault::Node(NodeFault::Memory),
+            shard: turns.len(),
+        });
+    };
+    Ok(pages)
+}
+
 impl<D: PageDevice + Send> SharedShards<D> {
     /// A copy of the history of all shards: each shard copies its own in one turn, in the order of
     /// the shards, in which the call `CopyHistory` is answered, and the copy is their join. A dump
@@ -130,5 +170,31 @@ impl<D: PageDevice + Send> SharedShards<D> {
     {
         let copy = copy_all(rt, alloc, &self.turns, &mut attached.passes)?;
         Ok(copy)
+    }
+
+    /// The `n` hottest pages of all shards, hottest first, or all where there are fewer: those of a
+    /// copy of the history of all shards, which is made as by [`SharedShards::history`].
+    /// [`SharedShards::warm_list_of`] lists those of one shard, without a copy.
+    ///
+    /// # Errors
+    /// Those of `history`; and `Node(Memory)` where no memory was left for the list, of which the
+    /// number says how many shards there are. Nothing has changed in any shard.
+    pub fn warm_list<R: Wait>(
+        &self,
+        rt: &R,
+        alloc: Global,
+        attached: &mut Attached<D>,
+        n: usize,
+    ) -> Result<PageList, Stopped>
+        requires { AreOf self.now attached.old.passes }
+        ensures attached { AreOf self.now attached.new.passes }
+        ensures listed { IfOk result (λ pages.
+            ListsAll n pages attached.old.passes attached.new.passes) }
+        ensures stopped { IfErr result (λ at.
+            CopyFails at.shard at.fault attached.old.passes attached.new.passes) }
+        ensures pins { attached.new.pins ≡ attached.old.pins }
+    {
+        let pages = list_all(rt, alloc, &self.turns, &mut attached.passes, n)?;
+        Ok(pages)
     }
 }

@@ -1,10 +1,12 @@
-//! The calls that take references in, forget them, and list the hottest pages: shard by shard.
+//! The calls that take references in and forget them, shard by shard, and list a shard's hottest
+//! pages.
 ghost use Rattle.std.specs.Prelude.{◌≡◌, ◌<◌, [], length, IfErr, IfOk, OnOk};
 ghost use Rattle.warm_shards.specs.Shards.{IsShardCount};
 ghost use Rattle.warm_concurrent.specs.Attached.{AreOf, AreTurns};
 ghost use Rattle.warm_concurrent.specs.Clauses.{CallEnds};
 ghost use Rattle.warm_concurrent.specs.declared.call.ShardCall.TheVariants.{Raise, WarmList};
 ghost use Rattle.warm_concurrent.specs.declared.call.ShardReply.TheVariants.{Kept, Pages};
+ghost use Rattle.warm_concurrent.specs.Raising.{RaisesAll};
 ghost use Rattle.warm_concurrent.specs.Whole.{AbsorbFails, AbsorbsFirst, ArePartsOf, RaiseFails};
 ghost use Rattle.warm_concurrent.specs.Whole.{RaisesFirst};
 
@@ -138,28 +140,33 @@ fn raise_in<D: PageDevice + Send, R: Wait>(
     }
 }
 
-// Raises the horizon of each shard.
+// Raises the horizon of each shard. Returns the latest of the horizons that they then have.
 pub(crate) fn raise_all<D: PageDevice + Send, R: Wait>(
     rt: &R,
     turns: &Vec<Turn<Shard<D>>>,
     passes: &mut Vec<Pass<Shard<D>>>,
     time: u64,
-) -> Result<(), Stopped>
+) -> Result<u64, Stopped>
     requires turns { AreTurns turns.now.items }
     requires passes { AreOf turns.now.items passes.old.items }
     ensures passes { AreOf turns.now.items passes.new.items }
     ensures raised { OnOk result (RaisesFirst time (length turns.now.items) passes.old.items
         passes.new.items) }
+    ensures latest { IfOk result (λ horizon. RaisesAll time horizon passes.old.items
+        passes.new.items) }
     ensures stopped { IfErr result (λ at. RaiseFails time at.shard at.fault passes.old.items
         passes.new.items) }
 {
     let count = turns.len();
+    let mut latest = 0u64;
     for shard in 0..count {
-        if let Err(fault) = raise_in(rt, turns, passes, shard, time) {
-            return Err(Stopped { fault, shard });
-        }
+        let horizon = match raise_in(rt, turns, passes, shard, time) {
+            Ok(horizon) => horizon,
+            Err(fault) => return Err(Stopped { fault, shard }),
+        };
+        latest = latest.max(horizon);
     }
-    Ok(())
+    Ok(latest)
 }
 
 // Lists the hottest pages of a shard.
@@ -213,7 +220,8 @@ impl<D: PageDevice + Send> SharedShards<D> {
     }
 
     /// Forgets all stamps before this time in each shard, each in one turn, in the order of the
-    /// shards.
+    /// shards, in which the call `Raise` is answered. Returns the latest of the horizons that the
+    /// shards then have: `time`, or later where one had a later horizon. Allocation-free.
     ///
     /// # Errors
     /// `TurnsSpent`: the shards before the number given have forgotten them, and the others have
@@ -223,26 +231,46 @@ impl<D: PageDevice + Send> SharedShards<D> {
         rt: &R,
         attached: &mut Attached<D>,
         time: u64,
-    ) -> Result<(), Stopped>
+    ) -> Result<u64, Stopped>
         requires { AreOf self.now attached.old.passes }
         ensures attached { AreOf self.now attached.new.passes }
-        ensures raised { OnOk result (RaisesFirst time (length self.now) attached.old.passes
+        ensures raised { IfOk result (λ horizon. RaisesAll time horizon attached.old.passes
             attached.new.passes) }
         ensures stopped { IfErr result (λ at. RaiseFails time at.shard at.fault
             attached.old.passes attached.new.passes) }
         ensures pins { attached.new.pins ≡ attached.old.pins }
     {
-        raise_all(rt, &self.turns, &mut attached.passes, time)?;
-        Ok(())
+        let horizon = raise_all(rt, &self.turns, &mut attached.passes, time)?;
+        Ok(horizon)
+    }
+
+    /// The latest of the horizons of the shards, the times before which they forget stamps. Each
+    /// shard says its own in one turn, in the order of the shards: it answers the call `Raise` to
+    /// the time 0, which forgets nothing. Another thread may raise it meanwhile. Allocation-free.
+    ///
+    /// # Errors
+    /// `TurnsSpent`. No history has changed.
+    pub fn horizon<R: Wait>(&self, rt: &R, attached: &mut Attached<D>) -> Result<u64, Stopped>
+        requires { AreOf self.now attached.old.passes }
+        ensures attached { AreOf self.now attached.new.passes }
+        ensures raised { IfOk result (λ horizon. RaisesAll 0 horizon attached.old.passes
+            attached.new.passes) }
+        ensures stopped { IfErr result (λ at. RaiseFails 0 at.shard at.fault
+            attached.old.passes attached.new.passes) }
+        ensures pins { attached.new.pins ≡ attached.old.pins }
+    {
+        let horizon = raise_all(rt, &self.turns, &mut attached.passes, 0)?;
+        Ok(horizon)
     }
 
     /// The `n` hottest pages of a shard, hottest first, or all where there are fewer: one turn of
-    /// the shard, in which the call `WarmList` is answered. It says nothing of other shards.
+    /// the shard, in which the call `WarmList` is answered. It says nothing of other shards:
+    /// [`SharedShards::warm_list`] lists those of all.
     ///
     /// # Errors
     /// `Node(Memory)`: an allocation failed in the shard. `TurnsSpent`. Nothing has changed in any
     /// shard.
-    pub fn warm_list<R: Wait>(
+    pub fn warm_list_of<R: Wait>(
         &self,
         rt: &R,
         attached: &mut Attached<D>,

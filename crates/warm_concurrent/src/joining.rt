@@ -2,8 +2,6 @@
 ghost use Rattle.std.specs.Prelude.{◌≡◌, length, IfErr, IfOk, OnOk};
 ghost use Rattle.warm_frames.specs.declared.message.Message.TheVariants.{Entries};
 ghost use Rattle.warm_history.specs.Histories.{entries_of};
-ghost use Rattle.warm_shards.specs.Parts.{part_of_entries};
-ghost use Rattle.warm_shards.specs.Shards.{IsShardCount};
 ghost use Rattle.warm_concurrent.specs.Attached.{AreOf, AreTurns};
 ghost use Rattle.warm_concurrent.specs.Whole.{JoinFails, JoinsFirst, TakeFails, TakesFirst};
 
@@ -18,28 +16,9 @@ use std::sync::Wait;
 use warm_devices::PageDevice;
 use warm_gossip::NodeFault;
 use warm_history::{Entry, History};
-use warm_shards::shard_of;
+use warm_shards::part_of_entries;
 use warm_stamps::Items;
 use warm_turn::{Pass, Turn};
-
-// The entries of pages of the shard, in order.
-fn part_of_entries(
-    alloc: Global,
-    entries: &[Entry],
-    count: usize,
-    shard: usize,
-) -> Result<Vec<Entry>, AllocError>
-    requires { IsShardCount count }
-    ensures { IfOk result (λ part. part.items ≡ part_of_entries count shard entries.now) }
-{
-    let mut part = Vec::new(alloc);
-    for entry in entries {
-        if shard_of(count, entry.page) == shard {
-            part.push(*entry)?;
-        }
-    }
-    Ok(part)
-}
 
 // Each shard takes in the entries of its pages, at the later horizon, in one turn, in the order of
 // the shards.

@@ -2,12 +2,14 @@
 #![tactic(auto)]
 
 mod answering;
+mod asking;
 mod attaching;
 mod call;
 mod copying;
 mod engine_calls;
 mod fault;
 mod filling;
+mod flushing;
 mod gossip;
 mod history_calls;
 mod joining;

@@ -1,7 +1,7 @@
 //! Shards that threads share, and what each thread has of them.
 ghost use Rattle.std.specs.Prelude.{◌≡◌, ◌<◌, ◌≤◌, [], length, map, IfErr, IfOk, OnErr, OnOk};
-ghost use Rattle.warm_shards.specs.Shards.{IsShardCount};
-ghost use Rattle.warm_concurrent.specs.Attached.{AreOf, AreTurns, known_of, shard_turn};
+ghost use Rattle.warm_shards.specs.Shards.{IsShardCount, shard_of};
+ghost use Rattle.warm_concurrent.specs.Attached.{AreOf, AreTurns, OpenedAs, known_of, shard_turn};
 ghost use Rattle.warm_concurrent.specs.Clauses.{AnsweredByShard, Spent};
 ghost use Rattle.warm_concurrent.specs.declared.fault.SharedFault.TheVariants.{TurnsSpent};
 ghost use Rattle.warm_concurrent.specs.ShardSteps.{IsOwn};
@@ -15,6 +15,8 @@ use crate::shard::Shard;
 use std::marker::Model;
 use std::sync::Wait;
 use warm_devices::PageDevice;
+use warm_shards::shard_of;
+use warm_stamps::{PageId, ReplicaId};
 use warm_turn::{Pass, Turn, Visit};
 
 /// The shards of one replica, each behind a turn of its own. Threads share them by `&`; each has an
@@ -23,18 +25,19 @@ use warm_turn::{Pass, Turn, Visit};
 /// Contracts see the list of the turns, that of shard 0 first.
 #[derive(Drop)]
 pub struct SharedShards<D: PageDevice + Send> {
+    pub(crate) id: ReplicaId,
     pub(crate) turns: Vec<Turn<Shard<D>>>,
 }
 
 impl<D: PageDevice + Send> Model for SharedShards<D> {
     ghost use Rattle.std.specs.Prelude.{List};
-    ghost use Rattle.warm_concurrent.specs.Attached.{AreTurns, ShardTurn};
+    ghost use Rattle.warm_concurrent.specs.Attached.{AreTurns, OpenedAs, ShardTurn};
 
     ghost Value = { List ShardTurn };
 
     ghost view = { λ s. s.turns.items };
 
-    ghost invariant = { λ s. AreTurns s.turns.items };
+    ghost invariant = { λ s. AreTurns s.turns.items × OpenedAs s.id s.turns.items };
 }
 
 /// What a thread has of shared shards: a pass of each shard, and a count of the pins that it holds.
@@ -66,12 +69,27 @@ impl<D: PageDevice + Send> Attached<D> {
 }
 
 impl<D: PageDevice + Send> SharedShards<D> {
+    /// The replica's number: that of each node with which the shards opened.
+    pub fn id(&self) -> ReplicaId
+        ensures { OpenedAs result self.now }
+    {
+        self.id
+    }
+
     /// How many shards there are.
     pub fn count(&self) -> usize
         ensures value { result ≡ length self.now }
         ensures valid { IsShardCount result }
     {
         self.turns.len()
+    }
+
+    /// The shard of a page. No turn is entered.
+    pub fn shard_of(&self, page: PageId) -> usize
+        ensures value { result ≡ shard_of (length self.now) page }
+        ensures below { result < length self.now }
+    {
+        shard_of(self.count(), page)
     }
 }
 

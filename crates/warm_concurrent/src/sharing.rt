@@ -10,6 +10,7 @@ use std::alloc::{AllocError, Global};
 use std::marker::Model;
 use warm_devices::PageDevice;
 use warm_shards::Shards;
+use warm_stamps::ReplicaId;
 use warm_turn::{Pass, Turn};
 
 /// Shards that are to be shared. Some may be behind turns already: where memory fails, nothing is
@@ -18,6 +19,8 @@ use warm_turn::{Pass, Turn};
 /// Contracts see the list of the shards, that of shard 0 first.
 pub struct Sharing<D: PageDevice + Send> {
     alloc: Global,
+    // The replica's number.
+    id: ReplicaId,
     // The first shards.
     shards: Vec<Shard<D>>,
     // The turns of the other shards, and a pass of each.
@@ -30,6 +33,7 @@ impl<D: PageDevice + Send> Drop for Sharing<D> {
     fn drop(self) {
         let Self {
             alloc: _,
+            id: _,
             shards,
             turns,
             passes,
@@ -50,7 +54,7 @@ impl<D: PageDevice + Send> Model for Sharing<D> {
     ghost view = { λ s. s.shards.items ++ openings s.turns.items };
 
     ghost invariant = { λ s. AreFirst s.turns.items s.passes.items
-        × AreNumbered (s.shards.items ++ openings s.turns.items) };
+        × AreNumbered s.id (s.shards.items ++ openings s.turns.items) };
 }
 
 // Puts the last shard that is not behind a turn behind one.
@@ -124,6 +128,7 @@ impl<D: PageDevice + Send> Sharing<D> {
         ensures back { IfErr result (λ given. given ≡ shards) }
     {
         let count = shards.count();
+        let id = shards.id();
         let Ok(mut all) = Vec::with_capacity(alloc, count) else {
             return Err(shards);
         };
@@ -133,6 +138,7 @@ impl<D: PageDevice + Send> Sharing<D> {
         }
         Ok(Sharing {
             alloc,
+            id,
             shards: all,
             turns: Vec::new(alloc),
             passes: Vec::new(alloc),
@@ -154,6 +160,7 @@ impl<D: PageDevice + Send> Sharing<D> {
     {
         let Sharing {
             alloc,
+            id,
             mut shards,
             mut turns,
             mut passes,
@@ -161,11 +168,12 @@ impl<D: PageDevice + Send> Sharing<D> {
         if let Err(AllocError) = put_all(alloc, &mut shards, &mut turns, &mut passes) {
             return Err(Sharing {
                 alloc,
+                id,
                 shards,
                 turns,
                 passes,
             });
         }
-        Ok((SharedShards { turns }, Attached { passes, pins: 0 }))
+        Ok((SharedShards { id, turns }, Attached { passes, pins: 0 }))
     }
 }

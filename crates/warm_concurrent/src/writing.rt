@@ -1,4 +1,5 @@
-//! Writing back: each shard writes its pages, and then each flushes; or one shard writes some.
+//! Writing back: each shard writes its pages, and then each flushes; or one shard writes all of its
+//! own, or some.
 ghost use Rattle.std.specs.Prelude.{◌≡◌, ◌<◌, length, IfErr, OnOk};
 ghost use Rattle.warm_concurrent.specs.Attached.{AreOf, AreTurns};
 ghost use Rattle.warm_shards.specs.Shards.{shard_of};
@@ -128,13 +129,17 @@ impl<D: PageDevice + Send> SharedShards<D> {
     /// Writes back the dirty pages of all shards, each in one turn of its shard, and then flushes
     /// the unflushed devices of each, each in one more. So devices that share a file can make it
     /// durable once. A page that another thread makes dirty in between is written before its shard
-    /// flushes.
+    /// flushes. Allocation-free.
     ///
     /// # Errors
     /// [`NotWritten`] says which shards have written and flushed. `Node(Pool(Fault))`: a device
     /// failed, and its count of failures has increased; the pages of that shard that were written
     /// before are clean. `TurnsSpent`. To write back once more does no harm.
-    pub fn write_back<R: Wait>(&self, rt: &R, attached: &mut Attached<D>) -> Result<(), NotWritten>
+    pub fn write_back_all<R: Wait>(
+        &self,
+        rt: &R,
+        attached: &mut Attached<D>,
+    ) -> Result<(), NotWritten>
         requires { AreOf self.now attached.old.passes }
         ensures attached { AreOf self.now attached.new.passes }
         ensures written { OnOk result (ShardsWriteBack attached.old.passes attached.new.passes) }
@@ -148,6 +153,32 @@ impl<D: PageDevice + Send> SharedShards<D> {
         if let Err(at) = flush_each(rt, &self.turns, &mut attached.passes) {
             return Err(NotWritten::Devices(at));
         }
+        Ok(())
+    }
+
+    /// Writes back the dirty pages of a shard, and flushes its unflushed devices: one turn of the
+    /// shard, in which the call `WriteBack` is answered. Other shards are not called.
+    /// Allocation-free.
+    ///
+    /// # Errors
+    /// `Node(Pool(Fault))`: a write or a flush failed, and its device's count of failures has
+    /// increased. The pages written before it are clean, and all others dirty as before.
+    /// `TurnsSpent`: nothing has changed.
+    pub fn write_back<R: Wait>(
+        &self,
+        rt: &R,
+        attached: &mut Attached<D>,
+        shard: usize,
+    ) -> Result<(), SharedFault>
+        requires passes { AreOf self.now attached.old.passes }
+        requires there { shard < length self.now }
+        ensures attached { AreOf self.now attached.new.passes }
+        ensures ends { CallEnds attached.old.passes shard WriteBack shard_done result
+            attached.new.passes }
+        ensures pins { attached.new.pins ≡ attached.old.pins }
+    {
+        let call = ShardCall::WriteBack;
+        do_in(rt, &self.turns, &mut attached.passes, shard, call)?;
         Ok(())
     }
 

@@ -17,5 +17,6 @@ abbrev pub TakesBatches : {X : Type 0} → (X → Call → Reply → X → Type 
 TakesBatches goes = (x y : _) (batch : List Reference) (reply : Reply)
     → goes x (Absorb batch) reply y → (reply ≡ Done) ⊎ (reply ≡ no_memory)
 
+-- every node absorbs a batch, or refuses it because of an allocation failure
 abbrev pub BatchesAreTaken : Type 0
 BatchesAreTaken = TakesBatches Step

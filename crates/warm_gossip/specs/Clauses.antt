@@ -86,7 +86,7 @@ DevicesAfter old Restart Done new = IsSettled new.pool
 DevicesAfter old Restart (Refused (Pool Fault)) new = writing_back.WriteBackFails old.pool new.pool
 DevicesAfter old call reply new = KeepsBytes old.pool new.pool
 
--- the same of a call whose result corresponds to its reply
+-- the devices and the dirty flags of frames after a call whose result corresponds to its reply
 abbrev pub DevicesAnswered : {T : Type 0} → NodeState → Call → (T → Reply) → Result T NodeFault
     → NodeState → Type 0
 DevicesAnswered old call reply (Ok given) new = DevicesAfter old call (reply given) new

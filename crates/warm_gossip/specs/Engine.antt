@@ -6,7 +6,7 @@ use Rattle.warm_gossip.specs.declared.fault.NodeFault.{NodeFault}
 use Rattle.warm_gossip.specs.Clauses.{OfPool}
 use Rattle.warm_gossip.specs.State.{NodeState}
 
--- its id and its history are unchanged
+-- the node's id and its history are unchanged
 pub record KeepsKnown (old new : NodeState) : Type 0 where
   pub id : new.id ≡ old.id
   pub history : new.history ≡ old.history

@@ -15,6 +15,7 @@ pub record NodeState : Type 0 where
 abbrev pub node_of : PeerState → PoolState → NodeState
 node_of peer pool = record { id = peer.id; history = peer.history; pool = pool }
 
+-- the peer in a node: all but the pool
 abbrev pub peer_of : NodeState → PeerState
 peer_of s = record { id = s.id; history = s.history }
 

@@ -61,11 +61,11 @@ IsNextWarm s =
 abbrev pub IsWithinPage : NodeView → ℕ → ℕ → Type 0
 IsWithinPage s at len = at + len ≤ s.pool.page_size
 
--- nothing has changed, and the slot doesn't hold its page; or it does, and the bytes reach beyond
--- the page
+-- nothing has changed, and the slot doesn't hold its page
 abbrev pub IsStale : NodeView → Slot → NodeView → Type 0
 IsStale old slot new = (Holds old.pool slot → ⊥) × (new ≡ old)
 
+-- nothing has changed, and the slot holds its page, but the bytes reach beyond the page
 abbrev pub IsBeyond : NodeView → Slot → ℕ → ℕ → NodeView → Type 0
 IsBeyond old slot at len new = Holds old.pool slot × (IsWithinPage old at len → ⊥) × (new ≡ old)
 

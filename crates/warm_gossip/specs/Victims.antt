@@ -27,6 +27,8 @@ pub record AreFarthest (S : ReferenceSet) (old : NodeView) (call : Call) (reply 
   pub leaves : (v : PageId) → call ≢ Restart → IsEvicted old.pool new.pool v
       → IsFarthest S (unfixed_pages old.pool) v
 
+-- each page that a node names, or evicts by any call but a restart, is farthest back among the
+-- unpinned resident pages, over all references for which its history stands
 abbrev pub VictimsAreFarthest : Type 0
 VictimsAreFarthest = (S : ReferenceSet) (old new : NodeView) (call : Call) (reply : Reply)
     → StandsFor old.history S → Step old call reply new
@@ -39,6 +41,8 @@ pub record RepliesOver (S : ReferenceSet) (old new : NodeView) : Type 0 where
   pub hottest : (n : ℕ) (ps : List PageId) → Step old (WarmList n) (Pages ps) new
       → ps ≡ hottest_pages S n
 
+-- the victim and the hottest pages that a node gives are those over all references for which its
+-- history stands
 abbrev pub RepliesAreOverReferences : Type 0
 RepliesAreOverReferences = (S : ReferenceSet) (old new : NodeView) → StandsFor old.history S
     → RepliesOver S old new

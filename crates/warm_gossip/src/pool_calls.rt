@@ -171,8 +171,8 @@ impl<D: PageDevice> Node<D> {
     /// The next warm-up step begins with the hottest page again.
     ///
     /// # Errors
-    /// Those of [`warm_pool::Pool::replace`], in its order. Each gives the new device back, and
-    /// leaves pages, pin counts and contents unchanged.
+    /// Those of [`warm_pool::Pool::replace`], in its order and with the same effects: only `Fault`
+    /// changes anything. Each gives the new device back.
     pub fn replace(&mut self, dev: u16, device: D) -> Result<D, RetireError<D>>
         ensures known { KeepsKnown self.old self.new }
         ensures ranked { KeepsRanks self.old.pool self.new.pool }

@@ -39,16 +39,19 @@ RoundJoins i j h g h' g' = (round : HistoryRound i j h g h' g')
     → ((entries_of h' ≡ entries_of (join h g)) × (g' ≡ join h g)
     × ((round.asked ≡ [] → ⊥) → h' ≡ join h g)) ⊎ IsCollision h (history_after g (offer i h))
 
+-- every round between histories whose numbers are within their widths joins them, or there is a
+-- collision
 abbrev pub HistoryRoundJoins : Type 0
 HistoryRoundJoins = (i j : ℕ) (h g h' g' : HistoryView) → IsHistory h → IsHistory g → Fits h
     → Fits g → RoundJoins i j h g h' g'
 
--- the same for each round in which one peer makes the offer to another
+-- each round in which the first peer makes the offer to the other joins their histories, or there
+-- is a collision
 abbrev pub PeersJoin : PeerState → PeerState → Type 0
 PeersJoin one other = (h' g' : HistoryView)
     → RoundJoins one.id other.id one.history other.history h' g'
 
--- a round ends there: j has no answer to the last messages
+-- a round ends when j has received the answers of i: it has no answer to those
 abbrev pub GossipRoundEnds : Type 0
 GossipRoundEnds = (i j : ℕ) (h g h' g' : HistoryView) → IsHistory h
     → (round : HistoryRound i j h g h' g') → round.last ≡ []

@@ -17,7 +17,7 @@ abbrev pub sent_since : ℕ → HistoryView → ℕ → ℕ → Option PageId �
 sent_since id h bucket since after = Entries id h.horizon
     (entries_of (history (carried_since (references_of h) bucket since after MAX_ENTRIES)))
 
--- there are more of these entries than one message holds
+-- the bucket has more entries since the time, of pages after the given one, than one message holds
 abbrev pub HasMoreSince : HistoryView → ℕ → ℕ → Option PageId → Type 0
 HasMoreSince h bucket since after =
     MAX_ENTRIES < length (entries_since bucket since after (entries_of h))

@@ -101,8 +101,14 @@ module _ (s t : PoolState) where
     pub replace_elsewhere : KeepsElsewhere dev s t
     replace_elsewhere = either_way _ _ r done refused (λ was x. x.retires.elsewhere) (λ e x. x.elsewhere)
 
+    pub replace_others : KeepsOtherDevices dev s t
+    replace_others = either_way _ _ r done refused (λ was x. x.retires.others) (λ e x. x.others)
+
   module _ {E : Type 0} (fault : E → PoolFault) (dev : ℕ) (device : DeviceState)
       (r : Result (Unit {0}) E) (done : OnOk r (RetiresDevice dev device s t))
       (refused : IfErr r (λ e. RetireFails dev device s (fault e) t)) where
     pub retire_elsewhere : KeepsElsewhere dev s t
     retire_elsewhere = either_way (λ _. RetiresDevice dev device s t) _ r done refused (λ x d. d.elsewhere) (λ e x. x.elsewhere)
+
+    pub retire_others : KeepsOtherDevices dev s t
+    retire_others = either_way (λ _. RetiresDevice dev device s t) _ r done refused (λ x d. d.others) (λ e x. x.others)

@@ -11,6 +11,7 @@ use Rattle.warm_pool.specs.State.{PoolState, IsPool, RankedBy, nth_device, no_de
 use Rattle.warm_pool.specs.View.{stored, view_of, frame_view, device_view, is_page, bytes_in, FrameView, HasPage, contents_at}
 use Rattle.warm_pool.specs.Keeping.{FailsAt}
 use Rattle.warm_pool.specs.WritingBack.{is_on, KeptDevices, WritesBack, cleaned_selected}
+use Rattle.warm_pool.specs.WritingSome.{KeepsOtherDevices}
 use Rattle.warm_pool.specs.Retiring.{Retired, MayRetire, IsFixedOn, emptied, KeepsElsewhere, retired, vacate_if, vacated_selected}
 use Rattle.warm_pool.specs.steps.Retiring.{IsFixedIn, AreUnfixed, AreClean, PreparesRetire}
 use Rattle.warm_pool.specs.steps.Flushes.{IsFlushed, FlushFails}
@@ -21,6 +22,7 @@ use Rattle.warm_pool.proofs.Bytes.{bytes_nowhere, contents_seen, device_seen, fr
 use Rattle.warm_pool.proofs.Keeps.{pool_from, view_of_kept}
 use Rattle.warm_pool.proofs.SettleLemmas.{AreAlike, counts, alike_kept, down_view, flush_down, flush_fails_at}
 use Rattle.warm_pool.proofs.ClosingLemmas.{nth_other}
+use Rattle.warm_pool.proofs.OtherDevices.{flushed_others}
 use Rattle.warm_pool.proofs.frame_table.VacateLemmas.{clean_to}
 use Rattle.warm_pool.proofs.EmptyLemmas.{nth_vacated, vacated_pool, vacated_ranked, unfixed_to}
 use Rattle.warm_pool.specs.declared.selection.Devices.{Devices}
@@ -264,3 +266,8 @@ elsewhere_retired s t u dev device kept is i not =
     let stays : is_on dev (nth_frame t.frames i).page ≡ false = ap (λ f. is_on dev f.page) (kept i not) ∙ not in
     ap (λ x. nth_frame x.frames i) is ∙ nth_vacated (One dev) t.frames i
     ∙ ap (λ (b : Bool). cond b (vacated (nth_frame t.frames i)) (nth_frame t.frames i)) stays ∙ kept i not
+
+-- and the other devices
+pub others_retired : (s t u : PoolState) (dev : ℕ) (device : DeviceState)
+    → KeepsOtherDevices dev s t → u ≡ retired t dev device → KeepsOtherDevices dev s u
+others_retired s t u dev device kept is k apart = flushed_others dev t.devices u.devices device (ap (λ x. x.devices) is) k apart ∙ kept k apart

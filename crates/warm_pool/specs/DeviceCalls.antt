@@ -33,13 +33,14 @@ pub record WritesPage (d after : DeviceState) (n : ℕ) (bytes : List ℕ)
   pub others : ChangesPage n d.contents after.contents
   pub written : OnOk result (IsTrue d.honest → page_at after.contents n ≡ bytes)
 
--- the same, for device k of a list
+-- page n of device k of a list was read, and no other device of the list has changed
 pub record PageRead (old new : List DeviceState) (k n : ℕ) (bytes : List ℕ)
     (result : Result (Unit {0}) DeviceFault) : Type 0 where
   pub after : DeviceState
   pub becomes : new ≡ set old k after
   pub call : ReadsPage (nth_device old k) after n bytes result
 
+-- bytes were written to page n of device k of a list, and no other device of the list has changed
 pub record PageWrite (old new : List DeviceState) (k n : ℕ) (bytes : List ℕ)
     (result : Result (Unit {0}) DeviceFault) : Type 0 where
   pub after : DeviceState

@@ -14,7 +14,7 @@ abbrev pub AreUnfixedFrom : PoolView → ℕ → ℕ → Type 0
 AreUnfixedFrom v dev from = (i : ℕ) → IsTrue (is_from dev from (frame_at v i).page)
     → (frame_at v i).fixes ≡ 0
 
--- there is such a device, and none of these pages is pinned
+-- the device is there, and none of its pages with this number and above is pinned
 abbrev pub MayForget : PoolState → ℕ → ℕ → Type 0
 MayForget s dev from = (dev < length s.devices) × AreUnfixedFrom (view_of s) dev from
 
@@ -30,14 +30,14 @@ pub record Forgets (old : PoolState) (dev from : ℕ) (new : PoolState) : Type 0
   pub others : (p : PageId) → HasPage (view_of old) p → (p.dev ≢ dev) ⊎ (p.no < from)
       → contents_at (view_of new) p ≡ contents_at (view_of old) p
 
--- one of the pages is pinned
+-- one of the pages of the device with this number and above is pinned
 pub record IsFixedFrom (v : PoolView) (dev from : ℕ) : Type 0 where
   pub frame : ℕ
   pub there : frame < length v.frames
   pub is : IsTrue (is_from dev from (frame_at v frame).page)
   pub fixed : 0 < (frame_at v frame).fixes
 
--- why they are not forgotten
+-- why the pages of a device with this number and above are not forgotten
 abbrev pub ForgetRefused : PoolState → ℕ → ℕ → PoolFault → PoolState → Type 0
 ForgetRefused old dev from NoDevice new = (length old.devices ≤ dev) × (new ≡ old)
 ForgetRefused old dev from Fixed new = (dev < length old.devices)

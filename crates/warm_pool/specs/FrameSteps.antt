@@ -4,13 +4,15 @@ use Rattle.warm_rank.specs.declared.RankKey.{RankKey}
 use Rattle.warm_pool.specs.Frames.{FrameState}
 use Rattle.warm_pool.specs.PageBytes.{patched}
 
--- the frame with one more pin, with one pin fewer, and with this rank
+-- the frame with one more pin
 abbrev pub fixed : FrameState → FrameState
 fixed f = record f { fixes = f.fixes + 1 }
 
+-- the frame with one pin fewer
 abbrev pub unfixed : FrameState → FrameState
 unfixed f = record f { fixes = f.fixes - 1 }
 
+-- the frame with this rank
 abbrev pub ranked : RankKey → FrameState → FrameState
 ranked key f = record f { key = Some key }
 

@@ -74,6 +74,7 @@ frame_of page status body = record {
   bytes = body.bytes;
 }
 
+-- the frames with these pages, statuses and bodies, in their order
 abbrev pub frames_of : List (Option PageId) → List Status → List FrameBody → List FrameState
 frames_of (page ∷ pages) (status ∷ statuses) (body ∷ bodies) =
     frame_of page status body ∷ frames_of pages statuses bodies

@@ -39,10 +39,11 @@ pub record KeepsContents (old new : PoolView) : Type 0 where
 abbrev pub KeepsRanks : PoolState → PoolState → Type 0
 KeepsRanks old new = (h : HistoryView) → RankedBy old h → RankedBy new h
 
--- the frames are unchanged; all frames but one are unchanged
+-- the frames are unchanged
 abbrev pub KeepsFrames : PoolState → PoolState → Type 0
 KeepsFrames old new = new.frames ≡ old.frames
 
+-- all frames but one are unchanged
 abbrev pub KeepsOthers : ℕ → PoolState → PoolState → Type 0
 KeepsOthers i old new = (j : ℕ) → j ≢ i → nth_frame new.frames j ≡ nth_frame old.frames j
 

@@ -31,6 +31,7 @@ pub record IsWrittenWhole (old : PoolState) (slot : Slot) (w : List ℕ)
   pub dirty : MakesDirty old slot new
   pub ranked : KeepsRanks old new
 
+-- a page that was lent is written whole with the bytes that were left there
 abbrev pub LentPageIsWritten : Type 0
 LentPageIsWritten = (s : PoolState) (slot : Slot) (w : List ℕ) → IsPool s
     → Holds (view_of s) slot → length w ≡ s.page_size
@@ -42,7 +43,7 @@ pub record AddsPins (old new : PoolView) : Type 0 where
   pub pages : (i : ℕ) → (frame_at new i).page ≡ (frame_at old i).page
   pub fixes : (i : ℕ) → (frame_at old i).fixes ≤ (frame_at new i).fixes
 
--- a pin of a resident page is such a change
+-- a pin of a resident page adds pins, and removes none
 abbrev pub PinAddsPins : Type 0
 PinAddsPins = (old new : PoolView) (p : PageId) (slot : Slot) → AddsFix old p slot new
     → AddsPins old new
@@ -53,7 +54,8 @@ MorePinsKeepVictim = (S : ReferenceSet) (old new : PoolView) (p : PageId) → Ad
     → Contains (unfixed_pages new) p → IsVictim S (unfixed_pages old) (Some p)
     → (q : Option PageId) → IsVictim S (unfixed_pages new) q ↔ (q ≡ Some p)
 
--- and a page that is loaded comes into the same frame
+-- the frame into which a page is loaded is still the same, where pins were added but none to its
+-- page
 abbrev pub MorePinsKeepFrame : Type 0
 MorePinsKeepFrame = (h : HistoryView) (old new : PoolView) (i : ℕ) → AddsPins old new
     → (frame_at new i).fixes ≡ 0 → IsFrameToLoad h old (Some i) → IsFrameToLoad h new (Some i)
@@ -80,23 +82,25 @@ KeepsPlaces old new = (p : PageId) (i : ℕ) → (frame_at old i).page ≡ Some 
     → ((frame_at new i).page ≡ Some p)
     × ((frame_at new i).generation ≡ (frame_at old i).generation)
 
--- so does a call that pins or loads a page; one that removes a pin; one after which all frames are
--- as a caller saw them, as a write, a write-back, new ranks and a refusal; and one by which pages
--- leave
+-- a call that pins or loads a page keeps places
 abbrev pub PinsKeepPlaces : Type 0
 PinsKeepPlaces = (s : PoolState) (h : HistoryView) (p : PageId) (slot : Slot) (new : PoolView)
     → IsPool s → Pinned h (view_of s) p slot new
     ⊎ (Loaded h (view_of s) p slot new ⊎ PinnedZeroed h (view_of s) p slot new)
     → KeepsPlaces (view_of s) new
 
+-- removing a pin keeps places
 abbrev pub UnpinsKeepPlaces : Type 0
 UnpinsKeepPlaces = (s : PoolState) (slot : Slot) → IsPool s → Holds (view_of s) slot
     → KeepsPlaces (view_of s) (unpinned (view_of s) slot)
 
+-- a call after which a caller sees the same frames keeps places: a write, a write-back, new ranks,
+-- a refusal
 abbrev pub SameFramesKeepPlaces : Type 0
 SameFramesKeepPlaces = (s : PoolState) (new : PoolView) → IsPool s
     → new.frames ≡ (view_of s).frames → KeepsPlaces (view_of s) new
 
+-- a call by which pages leave keeps places: a device is retired, or pages are forgotten
 abbrev pub LeavingKeepsPlaces : Type 0
 LeavingKeepsPlaces = (s new : PoolState) (dev from : ℕ) (device : DeviceState) → IsPool s
     → Retired (view_of s) dev device (view_of new) ⊎ Forgets s dev from new

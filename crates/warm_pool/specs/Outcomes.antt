@@ -2,7 +2,7 @@
 -- refusal left. A refusal has a field `cause`: why, and what a caller then sees. That a history
 -- still ranks the pool holds in both cases: it is a clause of its own, but of calls that are never
 -- refused.
-use Rattle.std.specs.Prelude.{ℕ, ◌≡◌, List, Bool, length}
+use Rattle.std.specs.Prelude.{ℕ, ◌≡◌, ◌≢◌, List, Bool, length}
 use Rattle.warm_stamps.specs.declared.PageId.{PageId}
 use Rattle.warm_history.specs.Histories.{HistoryView}
 use Rattle.warm_devices.specs.Device.{DeviceState}
@@ -35,7 +35,7 @@ pub record PinsPage (h : HistoryView) (p : PageId) (old : PoolState) (slot : Slo
   pub holds : Holds (view_of new) slot
   pub frame : TakesFrame old p slot new
 
--- the same, and which page was evicted for it
+-- the page is in the slot, and pinned there; and which page was evicted for it
 pub record PinsPlaced (h : HistoryView) (p : PageId) (old : PoolState) (placed : Placed)
     (new : PoolState) : Type 0 where
   pub pin : PinsPage h p old placed.slot new
@@ -65,7 +65,7 @@ pub record LoadsPage (h : HistoryView) (p : PageId) (old : PoolState) (slot : Sl
   pub loaded : Loaded h (view_of old) p slot (view_of new)
   pub frame : TakesFrame old p slot new
 
--- the same, and which page was evicted for it
+-- the page is in the slot; and which page was evicted for it
 pub record LoadsPlaced (h : HistoryView) (p : PageId) (old : PoolState) (placed : Placed)
     (new : PoolState) : Type 0 where
   pub load : LoadsPage h p old placed.slot new
@@ -147,17 +147,19 @@ pub record WritesAllBack (old new : PoolState) : Type 0 where
   pub settled : IsSettled new
   pub once : FlushesOnce old.devices new.devices
 
+-- the write of a page or a flush failed; the frames written before it are clean
 pub record WriteAllFails (old : PoolState) (why : PoolFault) (new : PoolState) : Type 0 where
   pub cause : (why ≡ Fault) × WriteBackFails old new
   pub once : FlushesOnce old.devices new.devices
 
--- at most `limit` pages were written, and so many are still dirty
+-- at most `limit` pages were written, and `left` pages are still dirty
 pub record WritesSomeBack (limit : ℕ) (old : PoolState) (left : ℕ)
     (new : PoolState) : Type 0 where
   pub same : view_of new ≡ view_of old
   pub written : WritesBackSome limit old left new
   pub unflushed : FlushesNone old.devices new.devices
 
+-- a dirty page was not written; those before it are clean
 pub record WriteSomeFails (limit : ℕ) (old : PoolState) (why : PoolFault)
     (new : PoolState) : Type 0 where
   pub cause : (why ≡ Fault) × SomeFails limit old new
@@ -170,6 +172,7 @@ pub record WritesPageBack (p : PageId) (old : PoolState) (was_dirty : Bool)
   pub written : WritesBackPage old p was_dirty new
   pub unflushed : FlushesNone old.devices new.devices
 
+-- the page was not written, and is still dirty
 pub record WritePageFails (p : PageId) (old : PoolState) (why : PoolFault)
     (new : PoolState) : Type 0 where
   pub cause : (why ≡ Fault) × PageFails old p new
@@ -183,6 +186,7 @@ pub record SettlesDevice (dev : ℕ) (old new : PoolState) : Type 0 where
   pub others : KeepsOtherDevices dev old new
   pub once : FlushesOnce old.devices new.devices
 
+-- the device is not there, or a page of it was not written, or it was not flushed
 pub record FlushDeviceFails (dev : ℕ) (old : PoolState) (why : PoolFault)
     (new : PoolState) : Type 0 where
   pub cause : FlushRefused old dev why new
@@ -213,15 +217,20 @@ pub record GivesDevices (old : PoolState) (devices : List DeviceState) : Type 0 
 pub record RetiresDevice (dev : ℕ) (device : DeviceState) (old new : PoolState) : Type 0 where
   pub retired : Retired (view_of old) dev device (view_of new)
   pub elsewhere : KeepsElsewhere dev old new
+  pub others : KeepsOtherDevices dev old new
 
--- the same, and which device the caller got
+-- another device has replaced device dev, and the caller got the old one
 pub record ReplacesDevice (dev : ℕ) (device : DeviceState) (old : PoolState)
     (was : DeviceState) (new : PoolState) : Type 0 where
   pub retires : RetiresDevice dev device old new
   pub handed_back : HandsBackOne old dev was
 
+-- the device was not replaced: nothing has changed, unless a call of it failed
 pub record RetireFails (dev : ℕ) (device : DeviceState) (old : PoolState) (why : PoolFault)
     (new : PoolState) : Type 0 where
   pub cause : RetireRefused (view_of old) dev device why (view_of new)
+  pub unchanged : why ≢ Fault → new ≡ old
   pub stopped : why ≡ Fault → StopsAtDevice dev old new
   pub elsewhere : KeepsElsewhere dev old new
+  pub others : KeepsOtherDevices dev old new
+  pub once : FlushesOnce old.devices new.devices

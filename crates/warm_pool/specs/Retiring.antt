@@ -49,7 +49,8 @@ pub record MayRetire (v : PoolView) (dev : ℕ) (device : DeviceState) : Type 0 
   pub size : device.page_size ≡ v.page_size
   pub unfixed : (i : ℕ) → IsTrue (is_on dev (frame_at v i).page) → (frame_at v i).fixes ≡ 0
 
--- why it may not, or was not written back, and what is then unchanged
+-- why device dev is not replaced: it may not be, or it was not written back; and what is then
+-- unchanged
 abbrev pub RetireRefused : PoolView → ℕ → DeviceState → PoolFault → PoolView → Type 0
 RetireRefused old dev device NoDevice new = (length old.devices ≤ dev) × (new ≡ old)
 RetireRefused old dev device SizeDiffers new = (dev < length old.devices)

@@ -32,16 +32,19 @@ pub record PoolView : Type 0 where
   pub contents : List (List (List ℕ))
   pub failures : List ℕ
 
--- the device, the frame and the count of failures with this number, and the bytes of a page
+-- the device of this number
 abbrev pub device_at : PoolView → ℕ → DeviceView
 device_at v k = slice_index_or v.devices k (record { pages = 0; honest = false; unfailing = false })
 
+-- the frame of this number
 abbrev pub frame_at : PoolView → ℕ → FrameView
 frame_at v i = slice_index_or v.frames i (record { page = None; generation = 0; fixes = 0 })
 
+-- the count of failures of the device of this number
 abbrev pub failures_at : PoolView → ℕ → ℕ
 failures_at v k = slice_index_or v.failures k 0
 
+-- the bytes of a page
 abbrev pub contents_at : PoolView → PageId → List ℕ
 contents_at v p = slice_index_or (slice_index_or v.contents p.dev []) p.no []
 
@@ -63,6 +66,7 @@ stored devices p =
     if (nth_device devices p.dev).honest then page_at (nth_device devices p.dev).contents p.no
     else []
 
+-- the bytes of a page: those in its frame, or else those on its device
 abbrev pub bytes_of : List FrameState → List DeviceState → PageId → List ℕ
 bytes_of frames devices p = bytes_in frames p (stored devices p)
 
@@ -98,12 +102,13 @@ pub record HasPage (v : PoolView) (p : PageId) : Type 0 where
   pub device : p.dev < length v.devices
   pub number : p.no < (device_at v p.dev).pages
 
--- the page is in a frame; it is in none
+-- the page is in a frame
 pub record IsResident (v : PoolView) (p : PageId) : Type 0 where
   pub frame : ℕ
   pub there : frame < length v.frames
   pub holds : (frame_at v frame).page ≡ Some p
 
+-- the page is in no frame
 abbrev pub IsAbsent : PoolView → PageId → Type 0
 IsAbsent v p = (i : ℕ) → (frame_at v i).page ≢ Some p
 
@@ -113,10 +118,11 @@ pub record Holds (v : PoolView) (slot : Slot) : Type 0 where
   pub current : slot.generation ≡ (frame_at v slot.index).generation
   pub fixed : 0 < (frame_at v slot.index).fixes
 
--- the resident pages that are not pinned
+-- the page of a frame that is not pinned
 abbrev pub unfixed_page : FrameView → Option PageId
 unfixed_page f = if f.fixes == 0 then f.page else None
 
+-- the resident pages that are not pinned
 abbrev pub unfixed_pages : PoolView → List PageId
 unfixed_pages v = pages_in (map unfixed_page v.frames)
 

@@ -66,7 +66,8 @@ pub record CleansFirst (limit : ℕ) (old new : PoolState) : Type 0 where
   pub down : WritesBack (cleaned_to upto old.frames) old new
   pub unflushed : FlushesNone old.devices new.devices
 
--- the same, and this many pages are still dirty
+-- The dirty pages of the first frames were written back: `limit` of them, or all if there are
+-- fewer. `left` pages are still dirty. No device was flushed, and nothing has changed for a caller.
 abbrev pub WritesBackSome : ℕ → PoolState → ℕ → PoolState → Type 0
 WritesBackSome limit old left new = CleansFirst limit old new × (left ≡ dirty_count new.frames)
 
@@ -99,7 +100,8 @@ pub record CleansPage (old : PoolState) (page : PageId) (new : PoolState) : Type
       (nth_frame old.frames frame).bytes (Ok tt)
   pub frames : new.frames ≡ set old.frames frame (cleaned (nth_frame old.frames frame))
 
--- That call failed. No frame has changed, so the page is dirty as before.
+-- The call of its device that writes the dirty page failed. No frame has changed, so the page is
+-- dirty as before.
 pub record PageFails (old : PoolState) (page : PageId) (new : PoolState) : Type 0 where
   pub frame : ℕ
   pub was : IsDirtyIn old page frame

@@ -49,6 +49,7 @@ pub record FixesZeroed (old : PoolView) (p : PageId) (slot : Slot) (new : PoolVi
   pub adds : AddsFix old p slot between
   pub written : Written between slot 0 (replicate old.page_size 0) new
 
+-- a device has the page; it is in the slot's frame, pinned, and all its bytes are zero
 abbrev pub PinnedZeroed : HistoryView → PoolView → PageId → Slot → PoolView → Type 0
 PinnedZeroed h old p slot new =
     HasPage old p × (FixesZeroed old p slot new ⊎ PutsZeros h old p slot new)

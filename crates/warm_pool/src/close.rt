@@ -1,5 +1,5 @@
 //! Writing back a pool's pages, emptying the pool, and handing its devices back.
-ghost use Rattle.std.specs.Prelude.{◌≡◌, ◌<◌, length, map, false, OnOk, OnErr, IfOk, IfErr};
+ghost use Rattle.std.specs.Prelude.{◌≡◌, ◌≢◌, ◌<◌, length, map, false, OnOk, OnErr, IfOk, IfErr};
 ghost use Rattle.std.specs.Prelude.{MatchBool};
 ghost use Rattle.warm_devices.specs.Device.{DeviceState};
 ghost use Rattle.warm_pool.specs.State.{nth_device};
@@ -111,17 +111,17 @@ impl<D: PageDevice> Pool<D> {
 
     /// Replaces a device with another, and returns the old one. The dirty pages of the old device
     /// are written back, it is flushed, and its pages are evicted. An honest one then has every
-    /// page as the pool had it. The new device may have another number of pages. Frames of other
-    /// devices are unchanged, whether the call is refused or not.
+    /// page as the pool had it. The new device may have another number of pages. Other devices and
+    /// their frames are unchanged, whether the call is refused or not.
     ///
     /// # Errors
-    /// In this order; each gives the new device back, and leaves pages, pin counts and contents
-    /// unchanged.
+    /// In this order; each gives the new device back. Only `Fault` changes anything.
     /// - `NoDevice`: there is no device of this number.
     /// - `SizeDiffers`: the page size of the new device is not that of the pool.
     /// - `Fixed`: a page of the device is pinned.
     /// - `Fault`: a write or the flush of the device failed, and its count of failures has
-    ///   increased. The write-backs made before it stay.
+    ///   increased. Pages, pin counts and contents are unchanged, and the write-backs made before
+    ///   it stay.
     pub fn replace(&mut self, dev: u16, device: D) -> Result<D, RetireError<D>>
         ensures ranked { KeepsRanks self.old self.new }
         ensures done { IfOk result (λ was. ReplacesDevice
@@ -159,9 +159,12 @@ impl<D: PageDevice> Pool<D> {
         ensures refused { IfErr result (λ fault. (device : DeviceState) → device.page_size
             ≡ page_size → RetireRefused (view_of self.old) dev device fault
             (view_of self.new)) }
+        ensures unchanged { IfErr result (λ fault. fault ≢ Fault → self.new ≡ self.old) }
         ensures stopped { IfErr result (λ fault. fault ≡ Fault
             → StopsAtDevice dev self.old self.new) }
         ensures elsewhere { KeepsElsewhere dev self.old self.new }
+        ensures others { KeepsOtherDevices dev self.old self.new }
+        ensures once { FlushesOnce self.old.devices self.new.devices }
         ensures ranked { KeepsRanks self.old self.new }
     {
         if dev as usize >= self.devices.len() {

@@ -17,6 +17,7 @@ use Rattle.warm_replica.specs.Replied.{Replied}
 abbrev pub IsPrepared : Job → PreparedJob → Type 0
 IsPrepared job prepared = (job.cap ≡ prepared.buffer.capacity) × (job.steps ≡ prepared.steps)
 
+-- each prepared job has a buffer of its job's capacity and the same steps, in the jobs' order
 abbrev pub ArePrepared : List Job → List PreparedJob → Type 0
 ArePrepared = Pairs IsPrepared
 
@@ -40,7 +41,8 @@ module _ {X : Type 0} where
       (more : List (EndedPass Call Reply)) × Widened v more w
       × OnOk result (Triples PreparedJobWentAs jobs replies more)
 
-  -- the same, of a result that has the replies
+  -- the pass has seen more, and holds more passes: where the result has the replies, one for each
+  -- of the jobs, whose calls are those of the job with its replies
   abbrev pub Fanned : View X Call Reply → List PreparedJob → Result (Vec Replied) NoThread
       → View X Call Reply → Type 0
   Fanned v jobs result w =

@@ -53,7 +53,9 @@ Gave capacity n spent held (job_step.Call call) (Failed TurnsSpent) after held' 
     (after ≡ true) × (held' ≡ held) × (made ≡ [])
 Gave capacity n spent held step reply after held' made = ⊥
 
--- the same, for steps one after another
+-- The replies of steps, one after another, where a buffer of this capacity holds these references:
+-- the mark of the pass afterwards, the buffer's contents afterwards, and the calls that the steps
+-- made.
 abbrev pub AllGave : (capacity n : ℕ) → Bool → List Reference → List Step → List StepReply → Bool
     → List Reference → Calls → Type 0
 AllGave capacity n spent held [] [] after held' made = (after ≡ spent) × (held' ≡ held)
@@ -96,7 +98,7 @@ abbrev pub WentAs : ℕ → List Step → List StepReply → EndedPass Call Repl
 WentAs capacity steps replies e = (after : Bool) × (held : List Reference)
     × AllGave capacity e.number false [] steps replies after held e.calls
 
--- the same of a job
+-- the calls of an ended pass, which began without a mark, are those of this job with these replies
 abbrev pub JobWentAs : Job → Replied → EndedPass Call Reply → Type 0
 JobWentAs job replies e = WentAs job.cap job.steps.items replies.items e
 

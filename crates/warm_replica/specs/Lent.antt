@@ -39,14 +39,14 @@ pub record SlotChanged (old : NodeState) (slot : Slot) (before after : List ℕ)
 abbrev pub IsStaleBy : Slot → Call → Reply → Type 0
 IsStaleBy slot call reply = (call ≡ Read slot 0 0) × (reply ≡ Refused node_fault.StaleSlot)
 
--- How a look went, as the call and the reply say: bytes were shown of which this is so, and they
+-- How a look went, as the call and the reply say: bytes were shown of which `so` holds, and they
 -- are what a read of as many from the first on gives; or the slot doesn't hold its page
 abbrev pub LooksBy : {T : Type 0} → Slot → (T → List ℕ → Type 0) → Option T → Call → Reply → Type 0
 LooksBy slot so (Some given) call reply = (bytes : List ℕ) × so given bytes
     × (call ≡ Read slot 0 (length bytes)) × (reply ≡ Bytes bytes)
 LooksBy slot so None call reply = IsStaleBy slot call reply
 
--- How a change went, as the call and the reply say: this is so of the bytes before and of as many
+-- How a change went, as the call and the reply say: `so` holds of the bytes before and of as many
 -- after, and the latter are written from the first on; or the slot doesn't hold its page
 abbrev pub ChangesBy : {T : Type 0} → Slot → (T → List ℕ → List ℕ → Type 0) → Option T → Call
     → Reply → Type 0
@@ -61,7 +61,7 @@ ChangesBy slot so None call reply = IsStaleBy slot call reply
 abbrev pub NodeKnown : Type 0
 NodeKnown = View NodeView Call Reply
 
--- In one turn the replica showed bytes of which this is so: those that a read of as many gives,
+-- In one turn the replica showed bytes of which `so` holds: those that a read of as many gives,
 -- from the first of the slot's page on
 pub record WorkerLooks (old : NodeKnown) (slot : Slot) (so : List ℕ → Type 0) (new : NodeKnown)
     : Type 0 where
@@ -69,7 +69,7 @@ pub record WorkerLooks (old : NodeKnown) (slot : Slot) (so : List ℕ → Type 0
   pub shown : so bytes
   pub read : Called Step old (Read slot 0 (length bytes)) (Bytes bytes) new
 
--- In one turn the replica let bytes be changed, and this is so of them before and after. What was
+-- In one turn the replica let bytes be changed, and `so` holds of them before and after. What was
 -- left in them is written, from the first of the slot's page on
 pub record WorkerChanges (old : NodeKnown) (slot : Slot) (so : List ℕ → List ℕ → Type 0)
     (new : NodeKnown) : Type 0 where

@@ -15,7 +15,8 @@ abbrev pub ended : List Run → List StepReply
 ended [] = []
 ended (run ∷ runs) = replicate run.touched Touched ++ run.reply ∷ ended runs
 
--- the same, and this many touches after the last run
+-- the replies that runs of touches stand for, each with the reply that ended it, and then this many
+-- touches
 abbrev pub replies_of : List Run → ℕ → List StepReply
 replies_of runs touched = ended runs ++ replicate touched Touched
 
@@ -25,6 +26,6 @@ IsTaken Touched = Unit {0}
 IsTaken Flushed = Unit {0}
 IsTaken reply = ⊥
 
--- each step was taken so
+-- each step put its reference into the buffer, or had the replica absorb the buffer
 abbrev pub AreTaken : Replied → Type 0
 AreTaken replies = All IsTaken replies.items

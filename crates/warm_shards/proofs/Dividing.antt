@@ -1,33 +1,35 @@
 -- The parts of a batch, one reference after the other.
-use Rattle.std.proofs.Common.{◌≡◌, ◌≢◌, inl, inr, ℕ, zero, suc, ◌+◌, ◌<◌, Bool, List, [], ◌∷◌, ◌++◌, filter, length, map, set, get_or, take, refl, sym, ap, subst, ◌∙◌, arith}
+use Rattle.std.proofs.Common.{◌≡◌, ◌≢◌, inl, inr, ℕ, zero, suc, ◌+◌, ◌<◌, Bool, List, [], ◌∷◌, ◌++◌, length, map, set, get_or, take, refl, sym, ap, subst, ◌∙◌, arith}
 use Rattle.std.specs.Prelude.{nat_eq}
 use Rattle.std.specs.List.{AllByRecursion}
 use Rattle.std.proofs.lemmas.Bool.{cases_eq, eq-eqb, ne_eqb}
 use Rattle.std.proofs.lemmas.List.{append-nil, get_or-map, get_or-set_other, get_or-set_same, length-map, length-set, take_more}
 use Rattle.std.proofs.lemmas.List.Elements.{filter-append}
 use Rattle.warm_stamps.specs.declared.Reference.{Reference}
-use Rattle.warm_shards.specs.Parts.{AreShardParts}
+use Rattle.warm_shards.specs.Parts.{AreShardParts, part_of_batch}
 use Rattle.warm_shards.specs.Shards.{shard_of}
 
 abbrev own : ℕ → ℕ → Reference → Bool
 own count i = λ r. nat_eq (shard_of count r.page) i
 
-own_filter : (count i : ℕ) (rs : List Reference) (r : Reference) → shard_of count r.page ≡ i
-    → filter (own count i) (rs ++ r ∷ []) ≡ filter (own count i) rs ++ r ∷ []
-own_filter count i rs r is =
-    let one : filter (own count i) (r ∷ []) ≡ r ∷ [] = rw (eq-eqb (shard_of count r.page) i is) refl in
-    filter-append (own count i) rs (r ∷ []) ∙ ap (λ xs. filter (own count i) rs ++ xs) one
+-- one reference more, in its shard's part
+pub part_gains : (count i : ℕ) (rs : List Reference) (r : Reference) → shard_of count r.page ≡ i
+    → part_of_batch count i (rs ++ r ∷ []) ≡ part_of_batch count i rs ++ r ∷ []
+part_gains count i rs r is =
+    let one : part_of_batch count i (r ∷ []) ≡ r ∷ [] = rw (eq-eqb (shard_of count r.page) i is) refl in
+    filter-append (own count i) rs (r ∷ []) ∙ ap (λ xs. part_of_batch count i rs ++ xs) one
 
-other_filter : (count i : ℕ) (rs : List Reference) (r : Reference) → shard_of count r.page ≢ i
-    → filter (own count i) (rs ++ r ∷ []) ≡ filter (own count i) rs
-other_filter count i rs r other =
-    let none : filter (own count i) (r ∷ []) ≡ [] = rw (ne_eqb (shard_of count r.page) i other) refl in
-    filter-append (own count i) rs (r ∷ []) ∙ ap (λ xs. filter (own count i) rs ++ xs) none ∙ append-nil (filter (own count i) rs)
+-- the parts of the other shards stay
+pub part_stays : (count i : ℕ) (rs : List Reference) (r : Reference) → shard_of count r.page ≢ i
+    → part_of_batch count i (rs ++ r ∷ []) ≡ part_of_batch count i rs
+part_stays count i rs r other =
+    let none : part_of_batch count i (r ∷ []) ≡ [] = rw (ne_eqb (shard_of count r.page) i other) refl in
+    filter-append (own count i) rs (r ∷ []) ∙ ap (λ xs. part_of_batch count i rs ++ xs) none ∙ append-nil (part_of_batch count i rs)
 
 -- the part of one shard, as it is read
 pub nth_part : {V : Type 0} (f : V → List Reference) (xs : List V) (count k : ℕ)
     (batch : List Reference) (d : V) → AreShardParts count batch (map f xs) → k < count
-    → f (get_or xs k d) ≡ filter (own count k) batch
+    → f (get_or xs k d) ≡ part_of_batch count k batch
 nth_part f xs count k batch d parts lt =
     let long : length xs ≡ count = sym (length-map xs f) ∙ parts.size in
     sym (get_or-map f xs k d [] (omega (arith, long))) ∙ parts.part k lt
@@ -50,13 +52,13 @@ part_more f xs count so_far r v d parts lt is =
             ∙ ap f (get_or-set_same xs s v v (omega (arith, long)))
             ∙ is
             ∙ ap (λ rs. rs ++ r ∷ []) (nth_part f xs count s so_far d parts lt)
-            ∙ ap (λ (x : ℕ). filter (own count x) so_far ++ r ∷ []) same
-            ∙ sym (own_filter count i so_far r same)
+            ∙ ap (λ (x : ℕ). part_of_batch count x so_far ++ r ∷ []) same
+            ∙ sym (part_gains count i so_far r same)
         | inr other ↦
             get_or-map f (set xs s v) i v [] (omega (arith, new))
             ∙ ap f (get_or-set_other xs s i v v (λ e. other (sym e)))
             ∙ nth_part f xs count i so_far v parts less
-            ∙ sym (other_filter count i so_far r other)
+            ∙ sym (part_stays count i so_far r other)
       ];
     }
 

@@ -8,7 +8,7 @@ use Rattle.warm_stamps.specs.declared.Stamp.{Stamp}
 use Rattle.warm_stamps.specs.declared.Reference.{Reference}
 use Rattle.warm_history.specs.declared.hist.Entry.{Entry}
 use Rattle.warm_history.specs.ListHistories.{hist_stamps, list_references_of, references_of_entry}
-use Rattle.warm_history.specs.ReferenceSets.{ReferenceSet, ◌∪◌}
+use Rattle.warm_history.specs.ReferenceSets.{ReferenceSet, set_of_list, ◌∪◌}
 use Rattle.warm_history.specs.Histories.{HistoryView, entries_of, history, join, references_of}
 use Rattle.warm_history.proofs.JoinLemmas.{history_first}
 use Rattle.warm_frames.specs.declared.message.Message.{Message}
@@ -22,7 +22,7 @@ use Rattle.warm_shards.proofs.Absorbing.{some_count, some_shards}
 use Rattle.warm_shards.proofs.Gathering.{AreGathered, all_gathered, digest_whole, gathered_more}
 use Rattle.warm_shards.proofs.PartLemmas.{all_parts, next_part, no_part}
 use Rattle.warm_shards.proofs.Taking.{none_joined, one_takes, whole_more}
-use Rattle.warm_shards.specs.PartLaws.{DigestsAreGathered, GatheredIsWhole, HistoryIsOfParts, MessageIsOfParts, OneTakesIn}
+use Rattle.warm_shards.specs.PartLaws.{BatchIsOfParts, DigestsAreGathered, GatheredIsWhole, HistoryIsOfParts, MessageIsOfParts, OneTakesIn}
 use Rattle.warm_shards.specs.Parts.{part_of_entries, part_of_message}
 
 pub one_takes_in : OneTakesIn
@@ -159,6 +159,11 @@ message_part count i (Digest sender horizon digests) = refl
 message_part count i (Want sender horizon request) = refl
 
 -- ---- the laws
+
+pub batch_is_of_parts : BatchIsOfParts
+batch_is_of_parts batch old new goes =
+    parts_taken (set_of_list batch) old new goes.count goes.long
+    (λ i lt. ap (λ (n : NodeView). n.history) (goes.each i lt))
 
 pub message_is_of_parts : MessageIsOfParts
 message_is_of_parts message old new goes =

@@ -21,7 +21,8 @@ abbrev pub Together : List NodeState → Call → Reply → List NodeState → T
 Together old call reply new = (pool : PoolView)
     → Step (as_node old pool) call reply (as_node new pool)
 
--- the same of a call whose result corresponds to its reply, or to its refusal
+-- all shards together go as the one node with all their references goes, for a call whose result
+-- corresponds to its reply, or to its refusal
 abbrev pub TogetherAnswered : {T : Type 0} → List NodeState → Call → (T → Reply)
     → Result T NodeFault → List NodeState → Type 0
 TogetherAnswered old call reply (Ok given) new = Together old call (reply given) new

@@ -27,7 +27,7 @@ IsFormingRefused number nodes fault = ⊥
 abbrev pub IsOwnIfResident : ℕ → ℕ → PoolView → PageId → Type 0
 IsOwnIfResident count i v p = IsResident v p → shard_of count p ≡ i
 
--- this is so of the first pages of a device
+-- the first pages of a device are of this shard, where they are in frames
 abbrev pub AreOwnOf : ℕ → ℕ → PoolView → ℕ → ℕ → Type 0
 AreOwnOf count i v dev pages = (no : ℕ) → no < pages
     → IsOwnIfResident count i v (record { dev = dev; no = no })

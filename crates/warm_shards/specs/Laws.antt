@@ -28,7 +28,7 @@ WholeIsOfGiven = (S : ReferenceSet) (old new : List NodeState) (call : Call) (re
     → StandsFor (whole old) S → Together old call reply new
     → StandsFor (whole new) (given_by_call S call reply)
 
--- after a refusal that leaves some references taken in, they stand for these too
+-- after a refusal that leaves some references taken in, all shards together stand for these too
 abbrev pub FirstAreGiven : Type 0
 FirstAreGiven = (S T : ReferenceSet) (old new : List NodeState) → StandsFor (whole old) S
     → TakesInFirst old T new
@@ -42,6 +42,8 @@ pub record ShardStands (S : ReferenceSet) (shards : List NodeState) (i : ℕ) : 
       → digest_at (digests_of (entries_of (shard_at shards i).history)) bucket
       ≡ digest_at (digests_of (entries_of (whole shards))) bucket
 
+-- each shard stands for its part of the references for which all together stand, and has the
+-- digests of its buckets
 abbrev pub ShardsStand : Type 0
 ShardsStand = (S : ReferenceSet) (shards : List NodeState) (i : ℕ) → AreShards shards
     → i < length shards → StandsFor (whole shards) S → ShardStands S shards i
@@ -70,8 +72,8 @@ StepsStayInShard = (count i : ℕ) (old new : NodeView) (call : Call) (reply : R
     → BringsOwn count i call → HoldsPagesOf count i old → Step old call reply new
     → HoldsPagesOf count i new
 
--- The same after a call of a device failed, of which a caller sees the count of failures alone: so
--- after a write-back too.
+-- A node that holds the pages of one shard alone still does after a call of a device failed, of
+-- which a caller sees the count of failures alone: so after a write-back too.
 abbrev pub FailuresStayInShard : Type 0
 FailuresStayInShard = (count i : ℕ) (old new : NodeView) → OnPool IsFailed old new
     → HoldsPagesOf count i old → HoldsPagesOf count i new

@@ -27,7 +27,8 @@ module _ (D : RattleType) (ghosts : Ghosts D.Denot) where
   abbrev pub nodes_row : RattleType
   nodes_row = vec_row (node_row D ghosts) global_row heap
 
-  -- the same, of a vector of nodes
+  -- The page of a frame of one node of a vector is lent until r ends. What r then holds is the
+  -- page's content, and the page is dirty.
   abbrev pub LendsPageIn : MutBor nodes_row.Denot → ℕ → ℕ → MutBor (List ℕ) → Fml
   LendsPageIn s i frame r = Lends nodes_row (Array u8 0) s r
       (λ w. with_item s.now i (relent_node (shard_at s.now.items i) frame w))

@@ -1,19 +1,20 @@
 -- Laws of parts: where each shard has had its part, all shards together have had the whole. They
 -- hold of whatever nodes there are, in whatever order the shards were called.
 use Rattle.std.specs.Prelude.{◌≡◌, ℕ, ◌+◌, ◌<◌, List, [], length, slice_set}
+use Rattle.warm_stamps.specs.declared.Reference.{Reference}
 use Rattle.warm_stamps.specs.declared.TheConstants.{BUCKETS}
-use Rattle.warm_history.specs.ReferenceSets.{ReferenceSet, ◌∪◌}
+use Rattle.warm_history.specs.ReferenceSets.{ReferenceSet, set_of_list, ◌∪◌}
 use Rattle.warm_history.specs.Histories.{HistoryView, entries_of, history, history_of_entries, join}
 use Rattle.warm_history.specs.Histories.{references_of}
 use Rattle.warm_digest.specs.BucketDigests.{digests_of}
 use Rattle.warm_frames.specs.declared.message.Message.{Message}
-use Rattle.warm_gossip.specs.declared.call.Call.TheVariants.{Receive}
-use Rattle.warm_gossip.specs.declared.call.Reply.TheVariants.{Answers}
+use Rattle.warm_gossip.specs.declared.call.Call.TheVariants.{Absorb, Receive}
+use Rattle.warm_gossip.specs.declared.call.Reply.TheVariants.{Answers, Done}
 use Rattle.warm_peer.specs.Answers.{history_after}
 use Rattle.warm_gossip.specs.Clauses.{Goes, Joins}
 use Rattle.warm_gossip.specs.State.{NodeState}
 use Rattle.warm_shards.specs.Digests.{FillsShard}
-use Rattle.warm_shards.specs.Parts.{part_of_history, part_of_message}
+use Rattle.warm_shards.specs.Parts.{part_of_batch, part_of_history, part_of_message}
 use Rattle.warm_shards.specs.Shards.{AreShards, IsShardCount, shard_at, whole}
 
 -- where one shard has taken references in, all together have, whatever the others hold
@@ -22,12 +23,19 @@ OneTakesIn = (shards : List NodeState) (i : ℕ) (S : ReferenceSet) (n : NodeSta
     → i < length shards → n.history ≡ history (references_of (shard_at shards i).history ∪ S)
     → whole (slice_set shards i n) ≡ history (references_of (whole shards) ∪ S)
 
--- as many nodes as there can be shards, each of which has gone so to the new one in its place
+-- there are as many nodes as there can be shards, and each has gone to the new one in its place as
+-- `goes` says
 pub record EachGoes (goes : ℕ → NodeState → NodeState → Type 0) (old new : List NodeState)
     : Type 0 where
   pub count : IsShardCount (length old)
   pub long : length new ≡ length old
   pub each : (i : ℕ) → i < length old → goes i (shard_at old i) (shard_at new i)
+
+-- where each has absorbed its part of a batch, all together have absorbed the batch
+abbrev pub BatchIsOfParts : Type 0
+BatchIsOfParts = (batch : List Reference) (old new : List NodeState)
+    → EachGoes (λ i n m. Goes n (Absorb (part_of_batch (length old) i batch)) Done m) old new
+    → whole new ≡ history (references_of (whole old) ∪ set_of_list batch)
 
 -- where each has received what a message brings to it, all together have received the message
 abbrev pub MessageIsOfParts : Type 0

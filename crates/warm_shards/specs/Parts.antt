@@ -3,18 +3,22 @@ use Rattle.std.specs.Prelude.{◌≡◌, ℕ, ◌<◌, List, [], filter, length,
 use Rattle.warm_stamps.specs.declared.Reference.{Reference}
 use Rattle.warm_history.specs.declared.hist.Entry.{Entry}
 use Rattle.warm_history.specs.Histories.{HistoryView, entries_of, history_of_entries_at}
-use Rattle.warm_history.specs.ReferenceSets.{set_of_list}
 use Rattle.warm_frames.specs.declared.message.Message.{Message}
 use Rattle.warm_frames.specs.declared.message.Message.TheVariants.{Entries, Digest, Want}
 use Rattle.warm_frames.specs.Limits.{entries_in, horizon_in}
-use Rattle.warm_shards.specs.Shards.{of_shard, shard_of}
+use Rattle.warm_shards.specs.Shards.{shard_of}
 
--- as many parts as shards, of each shard the references of the batch to its pages
+-- Batches
+
+-- the references of a batch to pages of the shard, in order
+abbrev pub part_of_batch : ℕ → ℕ → List Reference → List Reference
+part_of_batch shards shard batch = filter (λ r. nat_eq (shard_of shards r.page) shard) batch
+
+-- as many parts as shards, of each shard its own
 pub record AreShardParts (count : ℕ) (batch : List Reference) (parts : List (List Reference))
     : Type 0 where
   pub size : length parts ≡ count
-  pub part : (i : ℕ) → i < count
-      → slice_index_or parts i [] ≡ (of_shard count i (set_of_list batch)).given
+  pub part : (i : ℕ) → i < count → slice_index_or parts i [] ≡ part_of_batch count i batch
 
 -- Messages and histories
 

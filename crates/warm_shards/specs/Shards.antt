@@ -46,10 +46,11 @@ abbrev pub as_node : List NodeState → PoolView → NodeView
 as_node shards pool =
     record { id = (shard_at shards 0).id; history = whole shards; pool = pool }
 
--- the references to pages of one shard; and to those of the first k shards
+-- the references to pages of one shard
 abbrev pub of_shard : ℕ → ℕ → ReferenceSet → ReferenceSet
 of_shard count i S = filter_references (λ r. nat_eq (shard_of count r.page) i) S
 
+-- the references to pages of the first k shards
 abbrev pub of_first_shards : ℕ → ℕ → ReferenceSet → ReferenceSet
 of_first_shards count k S = filter_references (λ r. nat_lt (shard_of count r.page) k) S
 
@@ -64,6 +65,7 @@ pub record HoldsPagesOf (count i : ℕ) (n : NodeView) : Type 0 where
   pub known : AllByRecursion (λ e. shard_of count e.page ≡ i) (entries_of n.history)
   pub resident : HasPagesOf count i n.pool
 
+-- the node in this state knows pages of this shard alone, and no other page is in its pool
 abbrev pub HoldsShard : ℕ → ℕ → NodeState → Type 0
 HoldsShard count i n = HoldsPagesOf count i (node_view n)
 
@@ -90,7 +92,8 @@ pub record IsOpened (number : ℕ) (n : NodeState) : Type 0 where
   pub horizon : n.history.horizon ≡ 0
   pub vacant : resident_pages (view_of n.pool) ≡ []
 
--- as many such nodes as there can be shards
+-- as many nodes as there can be shards, each of this id, without references and without a resident
+-- page
 pub record AreOpened (number : ℕ) (nodes : List NodeState) : Type 0 where
   pub count : IsShardCount (length nodes)
   pub each : All (IsOpened number) nodes

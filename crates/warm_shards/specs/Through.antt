@@ -22,21 +22,21 @@ use Rattle.warm_gossip.specs.State.{NodeState, node_view}
 use Rattle.warm_gossip.specs.Step.{IsFailed, OnPool}
 use Rattle.warm_shards.specs.Shards.{shard_at, whole}
 
--- each shard has changed so
+-- each shard has changed as `change` says
 pub record OfEach (change : NodeState → NodeState → Type 0) (old new : List NodeState)
     : Type 0 where
   pub count : length new ≡ length old
   pub each : (i : ℕ) → i < length old → change (shard_at old i) (shard_at new i)
 
--- the first k shards have changed so, and the others are unchanged
+-- the first k shards have changed as `change` says, and the others are unchanged
 pub record OfFirst (change : NodeState → NodeState → Type 0) (k : ℕ) (old new : List NodeState)
     : Type 0 where
   pub count : length new ≡ length old
   pub first : (i : ℕ) → i < k → change (shard_at old i) (shard_at new i)
   pub rest : (i : ℕ) → k ≤ i → shard_at new i ≡ shard_at old i
 
--- the call stopped at one shard: those before it have changed in the first way, it has in the
--- second, and those after it have in the third
+-- The call stopped at one shard. The shards before it have changed as `done` says, this shard as
+-- `fails` says, and the shards after it as `left` says.
 pub record StopsAtShard (done fails left : NodeState → NodeState → Type 0)
     (old new : List NodeState) : Type 0 where
   pub count : length new ≡ length old
@@ -61,7 +61,7 @@ abbrev pub MayForgetEach : ℕ → ℕ → List NodeState → Type 0
 MayForgetEach dev from shards = (i : ℕ) → i < length shards
     → MayForget (shard_at shards i).pool dev from
 
--- some shard may not, for this reason
+-- some shard may not forget these pages, for this reason
 pub record ForgetIsRefused (dev from : ℕ) (why : NodeFault) (shards : List NodeState) : Type 0 where
   pub shard : ℕ
   pub there : shard < length shards
@@ -93,7 +93,8 @@ abbrev pub DeviceFails : NodeState → NodeState → Type 0
 DeviceFails old new = OnPool IsFailed (node_view old) (node_view new)
     × WriteBackFails old.pool new.pool
 
--- the same, and no page of the shard is dirty: what failed is a flush
+-- a flush failed: of what a caller sees only the count of failures of its device has changed, and
+-- no page of the shard is dirty
 abbrev pub ShardFlushFails : NodeState → NodeState → Type 0
 ShardFlushFails old new = OnPool IsFailed (node_view old) (node_view new) × IsClean new.pool
 

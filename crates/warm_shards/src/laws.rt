@@ -1,8 +1,10 @@
 //! Laws of shards. Each function changes nothing: its contract is a theorem, which
-//! `specs/Laws.antt` states in full.
+//! `specs/Laws.antt`, or `specs/PartLaws.antt`, states in full.
 ghost use Rattle.warm_shards.specs.Laws.{FailuresStayInShard, FirstAreGiven};
 ghost use Rattle.warm_shards.specs.Laws.{ShardVictimsAreFarthest, ShardsStand};
 ghost use Rattle.warm_shards.specs.Laws.{StepsStayInShard, WholeIsOfGiven};
+ghost use Rattle.warm_shards.specs.PartLaws.{BatchIsOfParts, DigestsAreGathered, GatheredIsWhole};
+ghost use Rattle.warm_shards.specs.PartLaws.{HistoryIsOfParts, MessageIsOfParts, OneTakesIn};
 
 /// Whatever references all shards together stand for, after a call of the whole they stand for
 /// those with what the call gave: that of a batch, of a message, of a horizon. So they stand for
@@ -40,4 +42,25 @@ pub fn steps_stay_in_shard()
 /// The same after a call of a device failed: as of a write-back that was refused.
 pub fn failures_stay_in_shard()
     ensures { FailuresStayInShard }
+{}
+
+/// Where one shard takes references in, all shards together do, whatever the others hold. So shards
+/// may be called in any order, and by different threads.
+pub fn one_takes_in()
+    ensures { OneTakesIn }
+{}
+
+/// Where each shard has had its part of a batch, a message or a history, all shards together have
+/// had the whole: what one node has then.
+pub fn parts_are_the_whole()
+    ensures batch { BatchIsOfParts }
+    ensures message { MessageIsOfParts }
+    ensures history { HistoryIsOfParts }
+{}
+
+/// What is gathered shard by shard is that of all shards together: a history that joins those of
+/// the shards, and a table with the digests of each.
+pub fn gathered_is_whole()
+    ensures history { GatheredIsWhole }
+    ensures digests { DigestsAreGathered }
 {}

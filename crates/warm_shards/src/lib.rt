@@ -31,6 +31,6 @@ mod through;
 
 pub use answers::fill_digests;
 pub use fault::{ShardsError, ShardsFault};
-pub use parts::{entries_for, part_of_message, sender_of};
+pub use parts::{part_of_entries, part_of_message};
 pub use pool_calls::ShardSlot;
 pub use shards::{Shards, frames_of_shard, is_shard_count, shard_of};

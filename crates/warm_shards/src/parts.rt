@@ -11,8 +11,8 @@ use warm_frames::{EntryList, Message};
 use warm_history::Entry;
 use warm_stamps::ReplicaId;
 
-/// The replica that sent a message.
-pub fn sender_of(message: &Message) -> ReplicaId
+// The replica that sent a message.
+fn sender_of(message: &Message) -> ReplicaId
     ensures { result ≡ sender_in message.now }
 {
     match message {
@@ -35,8 +35,11 @@ pub(crate) fn has_part(entries: &[Entry], shards: usize, shard: usize) -> bool
     false
 }
 
-/// The entries of pages of the shard, in order. `AllocError` occurs only where an allocation fails.
-pub(crate) fn part_of_entries(
+/// The entries of pages of the shard of this number, of this many, in order. It reads each entry
+/// once.
+///
+/// `AllocError` occurs only where an allocation fails.
+pub fn part_of_entries(
     alloc: Global,
     entries: &[Entry],
     shards: usize,
@@ -54,11 +57,9 @@ pub(crate) fn part_of_entries(
     Ok(part)
 }
 
-/// The entries that a message brings to the shard of this number, of this many: those of pages of
-/// the shard, in order. It reads each entry once.
-///
-/// `AllocError` occurs only where an allocation fails.
-pub fn entries_for(
+// The entries that a message brings to the shard. `AllocError` occurs only where an allocation
+// fails.
+fn entries_for(
     alloc: Global,
     message: &Message,
     shards: usize,
@@ -78,8 +79,8 @@ pub fn entries_for(
 
 /// What a message brings to the shard of this number, of this many: a message of the same sender
 /// and horizon, with the entries of pages of the shard. Where each shard receives its part, all
-/// together have received the message (`MessageIsOfParts` of `specs/PartLaws.antt`). It reads each
-/// entry once.
+/// together have received the message ([`crate::laws::parts_are_the_whole`]). It reads each entry
+/// once.
 ///
 /// `AllocError` occurs only where an allocation fails.
 pub fn part_of_message(

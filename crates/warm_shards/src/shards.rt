@@ -3,8 +3,8 @@ ghost use Rattle.std.specs.Prelude.{◌≡◌, ◌↔◌, ◌<◌, ◌*◌, [], 
 ghost use Rattle.warm_history.specs.Histories.{history_of_entries};
 ghost use Rattle.warm_gossip.specs.declared.fault.NodeFault.TheVariants.{Memory};
 ghost use Rattle.warm_shards.specs.Dividing.{IsDivisionRefused, IsOpeningRefused};
-ghost use Rattle.warm_shards.specs.Shards.{AreOpened, IsOpened, IsShardCount, shard_at, shard_of};
-ghost use Rattle.warm_shards.specs.Shards.{whole};
+ghost use Rattle.warm_shards.specs.Shards.{AreOpened, AreShards, IsOpened, IsShardCount};
+ghost use Rattle.warm_shards.specs.Shards.{shard_at, shard_of, whole};
 ghost use Rattle.std.specs.List.{All};
 
 use crate::fault::{ShardsError, ShardsFault};
@@ -113,10 +113,12 @@ impl<D: PageDevice> Shards<D> {
         Ok(Shards { alloc, nodes })
     }
 
-    /// How many shards there are.
+    /// How many shards there are. The clause `shards` is the invariant of the type, for a caller
+    /// that needs it.
     pub fn count(&self) -> usize
         ensures value { result ≡ length self.now }
         ensures valid { IsShardCount result }
+        ensures shards { AreShards self.now }
     {
         self.nodes.len()
     }

@@ -46,7 +46,7 @@ ask_in s (request.Reference i w page time) =
     ask_if (has_worker s i w) (ask i w (task.Reference (reference i page time)))
 ask_in s (request.Flush i w) = ask_if (has_worker s i w) (ask i w task.Flush)
 
--- the same, of a line that says something
+-- the request of a line that says something, or that threads can't play it
 abbrev pub as_said : Result Ask NotPlayable → Result (Option Ask) NotPlayable
 as_said (Ok a) = Ok (Some a)
 as_said (Err e) = Err e
@@ -78,11 +78,12 @@ bad_from s number (line ∷ rest) = bad_or (asked s line) number (bad_from s (nu
 abbrev pub first_bad : Sizes → List (List ℕ) → Option ℕ
 first_bad s lines = bad_from s 1 lines
 
--- the requests of the lines, in their order
+-- the request of a line, if it is one, before those of the lines after it
 abbrev pub with_ask : Result (Option Ask) NotPlayable → List Ask → List Ask
 with_ask (Ok (Some a)) rest = a ∷ rest
 with_ask _ rest = rest
 
+-- the requests of the lines, in their order
 abbrev pub asks : Sizes → List (List ℕ) → List Ask
 asks s [] = []
 asks s (line ∷ rest) = with_ask (asked s line) (asks s rest)

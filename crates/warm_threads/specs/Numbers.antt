@@ -6,6 +6,6 @@ abbrev pub NumberedFrom : {A : Type 0} → ℕ → (ℕ → A → Type 0) → Li
 NumberedFrom n P [] = Unit {0}
 NumberedFrom n P (x ∷ xs) = P n x × NumberedFrom (n + 1) P xs
 
--- the same, where the first has number 1
+-- a property of each item of a list and its number, where the first has number 1
 abbrev pub Numbered : {A : Type 0} → (ℕ → A → Type 0) → List A → Type 0
 Numbered P xs = NumberedFrom 1 P xs

@@ -24,6 +24,7 @@ abbrev pub plan_task : ℕ → Planned → Task → Planned
 plan_task capacity p (task.Reference r) = plan_reference p (nat_lt p.held capacity) r
 plan_task capacity p task.Flush = record { steps = p.steps ++ Flush ∷ []; held = 0 }
 
+-- the steps for these requests too, in their order
 abbrev pub plan_tasks : ℕ → Planned → List Task → Planned
 plan_tasks capacity p [] = p
 plan_tasks capacity p (a ∷ rest) = plan_tasks capacity (plan_task capacity p a) rest
@@ -45,7 +46,7 @@ pub record IsShaped (s : Sizes) (plans : List (Vec Planned)) : Type 0 where
   pub replicas : length plans ≡ s.replicas
   pub workers : All (λ list. length list.items ≡ s.workers) plans
 
--- they are the plans for the requests to each worker of each replica
+-- the plans are those for the requests to each worker of each replica
 abbrev pub ArePlansOf : Sizes → List Ask → List (Vec Planned) → Type 0
 ArePlansOf s asks plans =
     Numbered (λ i list. Numbered (λ w plan. plan ≡ plan_of s asks i w) list.items) plans
@@ -55,7 +56,7 @@ pub record DoesPlan (capacity : ℕ) (plan : Planned) (job : Job) : Type 0 where
   pub cap_is : job.cap ≡ capacity
   pub steps : job.steps.items ≡ plan.steps ++ Flush ∷ []
 
--- jobs that do so, worker by worker and replica by replica
+-- jobs that carry out the plans, and flush last, worker by worker and replica by replica
 abbrev pub DoPlans : ℕ → List (Vec Planned) → List (Vec Job) → Type 0
 DoPlans capacity plans jobs =
     Pairs (λ ps js. Pairs (DoesPlan capacity) ps.items js.items) plans jobs

@@ -14,7 +14,8 @@ StopsRuns Memory = Unit {0}
 StopsRuns NoThread = Unit {0}
 StopsRuns why = ⊥
 
--- what stops a running play: the same, the reader, the writer, or a line that threads can't play
+-- what stops a running play: an allocation failure, a thread that can't be started, a replica that
+-- takes no mail, the reader, the writer, or a line that threads can't play
 abbrev pub StopsThreads : PlayFault → Type 0
 StopsThreads ReadFault = Unit {0}
 StopsThreads WriteFault = Unit {0}

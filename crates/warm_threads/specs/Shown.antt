@@ -9,7 +9,8 @@ abbrev pub replica_text : ℕ → HistoryView → List ℕ
 replica_text i history = codes "replica " ++ decimal i ++ codes "\n"
     ++ shown_text (entries_of history)
 
--- the same of replicas one after the other, of which the first has this number
+-- replicas one after the other, of which the first has this number, and what `show` prints of the
+-- history of each
 abbrev pub replicas_text : ℕ → List NodeView → List ℕ
 replicas_text i [] = []
 replicas_text i (node ∷ rest) = replica_text i node.history ++ replicas_text (i + 1) rest

@@ -7,5 +7,6 @@ pub record Planned : Type 0 where
   pub steps : List Step
   pub held : ℕ
 
+-- no steps, and an empty buffer
 abbrev pub nothing_planned : Planned
 nothing_planned = record { steps = []; held = 0 }

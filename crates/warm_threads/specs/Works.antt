@@ -43,7 +43,8 @@ module _ {X : Type 0} (goes : X → Call → Reply → X → Type 0) where
     pub sends : LeadsBy SendsAll worked shared
     pub receives : LeadsBy (All IsReceipt) shared z
 
-  -- the same, for machines place by place: their old states, the jobs of their workers, and their
-  -- new states
+  -- The workers of each machine have ended; then it has sent every bucket whole, and then received
+  -- messages, and answered each. The lists have, place by place, the machines' old states, the jobs
+  -- of their workers, and their new states.
   abbrev pub Went : List X → List (Vec Job) → List X → Type 0
   Went = Triples (λ x list z. WentOn list.items x z)

@@ -7,11 +7,11 @@ use Rattle.warm_turn.specs.declared.table.Share.{Share}
 abbrev pub parts_of : ℕ → ℕ → Share
 parts_of parts whole = record { parts = parts; whole = whole }
 
--- all of it, which the first pass has
+-- the whole right to close, which the first pass has
 abbrev pub whole_share : Share
 whole_share = parts_of 1 1
 
--- nothing of it, which a note has
+-- no share of the right to close, which a note has
 abbrev pub no_share : Share
 no_share = parts_of 0 1
 
@@ -19,7 +19,7 @@ no_share = parts_of 0 1
 abbrev pub half : Share → Share
 half s = parts_of s.parts (2 * s.whole)
 
--- both shares, which a pass has after another was ended into it
+-- the sum of two shares, which a pass has after another was ended into it
 abbrev pub both : Share → Share → Share
 both s t = parts_of (s.parts * t.whole + t.parts * s.whole) (s.whole * t.whole)
 

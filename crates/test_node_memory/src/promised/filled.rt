@@ -1,18 +1,24 @@
-//! The allocation-free calls of a node whose pages a program reads by itself.
+//! The allocation-free calls of a node, and of shared shards, whose pages a program reads by itself.
+ghost use Rattle.std.specs.Prelude.{IfOk};
+ghost use Rattle.warm_concurrent.specs.Attached.{AreOf};
 
 use crate::promised::calls::both;
 use std::alloc::Global;
 use std::io::Print;
+use std::sync::Wait;
 use test_kit::cases::{Ended, Met, takes_none};
+use test_kit::{page, replica};
+use warm_concurrent::{Attached, SharedShards, Sharing};
 use warm_devices::{CallsMade, DeviceFault, PageDevice};
 use warm_gossip::Node;
 use warm_pool::Pool;
-use warm_stamps::{PageId, ReplicaId};
+use warm_shards::Shards;
+use warm_stamps::PageId;
 
 /// Eight blank pages of 16 bytes. The device is declared not honest: any bytes of its pages are
 /// believed.
 #[derive(Drop)]
-struct Blank {
+pub(crate) struct Blank {
     waiting: bool,
     calls: CallsMade,
 }
@@ -66,6 +72,56 @@ impl PageDevice for Blank {
     }
 }
 
+// A node of one frame, for the pages of a blank device.
+fn over_blank(alloc: Global) -> Result<Node<Blank>, Ended> {
+    let mut devices = Vec::with_capacity(alloc, 1)?;
+    devices.push_reserved(Blank {
+        waiting: false,
+        calls: CallsMade::new(),
+    });
+    match Pool::new(alloc, 1, 16, devices) {
+        Ok(pool) => Ok(Node::new(alloc, replica(1), pool)),
+        Err(_) => Err(Ended::NoMemory),
+    }
+}
+
+// Two shards of one frame each behind turns, and what a thread has of them.
+pub(crate) fn shared(alloc: Global) -> Result<(SharedShards<Blank>, Attached<Blank>), Ended>
+    ensures { IfOk result (λ made. AreOf made.0 made.1.passes) }
+{
+    let mut nodes = Vec::with_capacity(alloc, 2)?;
+    nodes.push_reserved(over_blank(alloc)?);
+    nodes.push_reserved(over_blank(alloc)?);
+    let Ok(shards) = Shards::new(alloc, replica(1), nodes) else {
+        return Err(Ended::Broken);
+    };
+    let Ok(sharing) = Sharing::new(alloc, shards) else {
+        return Err(Ended::NoMemory);
+    };
+    match sharing.share() {
+        Ok(made) => Ok(made),
+        Err(_) => Err(Ended::NoMemory),
+    }
+}
+
+// A thread pins a page with bytes that it has read.
+pub(crate) fn shared_rows<P: Print, R: Wait>(
+    rt: &P,
+    met: &mut Met,
+    waits: &R,
+    shared: SharedShards<Blank>,
+    mut thread: Attached<Blank>,
+) -> Result<(), Ended>
+    requires { AreOf shared thread.passes }
+{
+    takes_none(rt, "pin_filled of shared shards")?;
+    let Ok(at) = shared.pin_filled(waits, &mut thread, page(3), &[7; 16]) else {
+        return Err(met.broken("a page with its bytes is refused by shared shards"));
+    };
+    let unpinned = shared.unpin(waits, &mut thread, at);
+    met.holds(unpinned.is_ok(), "a page that was filled is not unpinned")
+}
+
 /// A node of one frame, with references to 0:1 and 0:2, and the list of the pages to read.
 #[derive(Drop)]
 pub(crate) struct Filled {
@@ -74,18 +130,7 @@ pub(crate) struct Filled {
 
 impl Filled {
     pub(crate) fn new(alloc: Global) -> Result<Filled, Ended> {
-        let Ok(id) = ReplicaId::new(1) else {
-            return Err(Ended::Broken);
-        };
-        let mut devices = Vec::with_capacity(alloc, 1)?;
-        devices.push_reserved(Blank {
-            waiting: false,
-            calls: CallsMade::new(),
-        });
-        let Ok(pool) = Pool::new(alloc, 1, 16, devices) else {
-            return Err(Ended::NoMemory);
-        };
-        let mut node = Node::new(alloc, id, pool);
+        let mut node = over_blank(alloc)?;
         if node.absorb(&both()).is_err() {
             return Err(Ended::NoMemory);
         }

@@ -35,7 +35,26 @@ pub(crate) fn opened(alloc: Global) -> Result<(Shared, Thread), Ended>
     }
 }
 
-// A shard's device is replaced with another.
+// All shards are raised, and their horizon is read.
+fn raised<P: Print, R: Wait>(
+    rt: &P,
+    met: &mut Met,
+    waits: &R,
+    shared: &Shared,
+    thread: &mut Thread,
+) -> Result<(), Ended>
+    requires { AreOf shared.now thread.old.passes }
+    ensures { AreOf shared.now thread.new.passes }
+{
+    takes_none(rt, "raise of shared shards")?;
+    let raised = shared.raise(waits, thread, 2);
+    met.holds(raised == Ok(2), "a raise of shared shards is refused")?;
+    takes_none(rt, "horizon of shared shards")?;
+    let horizon = shared.horizon(waits, thread);
+    met.holds(horizon == Ok(2), "a horizon of shared shards is refused")
+}
+
+// A shard's device is replaced with another, which then gives way to the first.
 fn retired<P: Print, R: Wait>(
     rt: &P,
     met: &mut Met,
@@ -50,9 +69,40 @@ fn retired<P: Print, R: Wait>(
     if shared.count() < 2 {
         return Err(met.broken("two shards are shared"));
     }
+    takes_none(rt, "replace of a shared shard")?;
+    let Ok(was) = shared.replace(waits, thread, 1, 0, device) else {
+        return Err(met.broken("a shared shard's device is not replaced"));
+    };
     takes_none(rt, "retire of a shared shard")?;
-    let retired = shared.retire(waits, thread, 1, 0, device);
+    let retired = shared.retire(waits, thread, 1, 0, was);
     met.holds(retired.is_ok(), "a shared shard's device is not retired")
+}
+
+// A shard is written back, and then both are. Each has a dirty page before.
+fn settled<P: Print, R: Wait>(
+    rt: &P,
+    met: &mut Met,
+    waits: &R,
+    shared: &Shared,
+    thread: &mut Thread,
+) -> Result<(), Ended>
+    requires { AreOf shared.now thread.old.passes }
+    ensures { AreOf shared.now thread.new.passes }
+{
+    if shared.count() < 2 {
+        return Err(met.broken("two shards are shared"));
+    }
+    let first = shared.change(waits, thread, page(2), |bytes: &mut [u8]| bytes.len());
+    let second = shared.change(waits, thread, page(3), |bytes: &mut [u8]| bytes.len());
+    met.holds(first.is_ok() && second.is_ok(), "pages are not changed")?;
+    takes_none(rt, "shard_of of shared shards")?;
+    met.holds(shared.shard_of(page(3)) == 1, "a page is of another shard")?;
+    takes_none(rt, "write_back of a shared shard")?;
+    let written = shared.write_back(waits, thread, 1);
+    met.holds(written.is_ok(), "a shared shard is not written back")?;
+    takes_none(rt, "write_back_all of shared shards")?;
+    let all = shared.write_back_all(waits, thread);
+    met.holds(all.is_ok(), "shared shards are not written back")
 }
 
 // A page is changed where it lies, another is looked at, and a third, for which one of these leaves
@@ -115,12 +165,14 @@ pub(crate) fn rows<P: Print, R: Wait>(
     takes_none(rt, "write_back_some of a shared shard")?;
     let left = shared.write_back_some(waits, &mut thread, 1, 1);
     met.holds(left == Ok(0), "a shared shard's page is not written back")?;
+    settled(rt, met, waits, &shared, &mut thread)?;
     takes_none(rt, "forget_pages of shared shards")?;
     let forgotten = shared.forget_pages(waits, &mut thread, 0, 1);
     met.holds(
         forgotten.is_ok(),
         "pages of shared shards are not forgotten",
     )?;
+    raised(rt, met, waits, &shared, &mut thread)?;
     retired(rt, met, waits, &shared, &mut thread, device)?;
     looked_at(rt, met, waits, &shared, &mut thread, into)
 }

@@ -13,6 +13,7 @@ use warm_concurrent::{Attached, NotReceived, SharedFault, SharedShards, Sharing}
 use warm_devices::MemDevice;
 use warm_frames::{EntryList, Message};
 use warm_gossip::NodeFault;
+use warm_refbuffer::RefBuffer;
 use warm_stamps::Bucket;
 
 type Shared = SharedShards<MemDevice>;
@@ -200,12 +201,39 @@ fn list<R: Wait>(met: &mut Met, rt: &R, shared: &Shared, thread: &mut Thread) ->
     if shared.count() < 2 {
         return Err(met.broken("two shards are shared"));
     }
-    let mut listed = shared.warm_list(rt, thread, 1, 8);
+    let mut listed = shared.warm_list_of(rt, thread, 1, 8);
     if let Err(fault) = listed {
         met.refuse(fault == MEMORY, "a list is refused for memory alone")?;
-        listed = shared.warm_list(rt, thread, 1, 8);
+        listed = shared.warm_list_of(rt, thread, 1, 8);
     }
     met.holds(listed.is_ok(), "a list is refused again by shared shards")
+}
+
+// Lists the hottest pages of both shards. A refused list names the shard that it stopped at, or the
+// one after the copy that was not joined, or as many shards as there are.
+fn list_all<R: Wait>(
+    met: &mut Met,
+    rt: &R,
+    alloc: Global,
+    shared: &Shared,
+    thread: &mut Thread,
+) -> Result<(), Ended>
+    requires { AreOf shared.now thread.old.passes }
+    ensures { AreOf shared.now thread.new.passes }
+{
+    let mut listed = shared.warm_list(rt, alloc, thread, 4);
+    if let Err(at) = listed {
+        let is_refused = at.fault == MEMORY && at.shard <= 2;
+        met.refuse(is_refused, "a list of both is refused for memory alone")?;
+        listed = shared.warm_list(rt, alloc, thread, 4);
+    }
+    let Ok(listed) = listed else {
+        return Err(met.broken("a list of both is refused again"));
+    };
+    let is_whole = listed.as_slice().len() == 4;
+    met.holds(is_whole, "a list has the pages of both shards")?;
+    let is_unchanged = is_known_below(met, rt, shared, thread, 2)?;
+    met.holds(is_unchanged, "a list changes nothing of shared shards")
 }
 
 // Sends what is new in a bucket.
@@ -289,6 +317,43 @@ fn join<R: Wait>(
     met.holds(are_known, "each shared shard has its part of a history")
 }
 
+// A thread's buffer, with references to the pages 66 to 68, two of shard 0 and one of shard 1.
+fn touched(met: &mut Met, alloc: Global) -> Result<RefBuffer, Ended> {
+    let Ok(mut buffer) = RefBuffer::new(alloc, 3) else {
+        return Err(Ended::NoMemory);
+    };
+    for reference in references_to(alloc, 66, 69, 40)? {
+        let taken = buffer.touch(reference).is_ok();
+        met.holds(taken, "a buffer takes as many as it holds")?;
+    }
+    Ok(buffer)
+}
+
+// The buffer is flushed. A refused flush keeps all three references, and the second one empties the
+// buffer.
+fn flush<R: Wait>(
+    met: &mut Met,
+    rt: &R,
+    alloc: Global,
+    shared: &Shared,
+    thread: &mut Thread,
+) -> Result<(), Ended>
+    requires { AreOf shared.now thread.old.passes }
+    ensures { AreOf shared.now thread.new.passes }
+{
+    let mut buffer = touched(met, alloc)?;
+    if let Err(at) = shared.flush(rt, alloc, thread, &mut buffer) {
+        let is_kept = at.fault == MEMORY && at.shard < 2 && buffer.len() == 3;
+        met.refuse(is_kept, "a refused flush keeps the buffer")?;
+        let again = shared.flush(rt, alloc, thread, &mut buffer).is_ok();
+        met.holds(again, "a flush is refused again by shared shards")?;
+    }
+    let is_empty = buffer.is_empty() && buffer.cap() == 3;
+    met.holds(is_empty, "a flushed buffer is empty")?;
+    let known = known_in(met, rt, shared, thread, 3)?;
+    met.holds(known == 1, "each shared shard has what was flushed")
+}
+
 // The digests of both shards are offered. A refused offer changes nothing.
 fn offer<R: Wait>(met: &mut Met, rt: &R, shared: &Shared, thread: &mut Thread) -> Result<(), Ended>
     requires { AreOf shared.now thread.old.passes }
@@ -365,6 +430,29 @@ fn copy<R: Wait>(
     met.holds(is_unchanged, "a copy changes nothing of shared shards")
 }
 
+// Asks for the answers to a message. A refusal changes nothing. It names the shard that it stopped
+// at, or how many there are.
+fn ask<R: Wait>(
+    met: &mut Met,
+    rt: &R,
+    alloc: Global,
+    shared: &Shared,
+    thread: &mut Thread,
+    message: &Message,
+) -> Result<(), Ended>
+    requires { AreOf shared.now thread.old.passes }
+    ensures { AreOf shared.now thread.new.passes }
+{
+    if let Err(at) = shared.answers(rt, alloc, thread, message) {
+        let is_refused = at.fault == MEMORY && at.shard <= 2;
+        met.refuse(is_refused, "a question is refused for memory alone")?;
+        let again = shared.answers(rt, alloc, thread, message).is_ok();
+        met.holds(again, "a question is refused again by shared shards")?;
+    }
+    let is_unchanged = is_known_below(met, rt, shared, thread, 2)?;
+    met.holds(is_unchanged, "a question changes nothing of shared shards")
+}
+
 // Closes the shards. Where they are refused, they are given back, and are closed at the second try.
 fn close(met: &mut Met, alloc: Global, shared: Shared, thread: Thread) -> Result<(), Ended>
     requires { AreOf shared thread.passes }
@@ -391,11 +479,15 @@ pub(crate) fn rows<R: Wait>(met: &mut Met, rt: &R, alloc: Global) -> Result<(), 
     offer(met, rt, &shared, &mut thread)?;
     answer(met, rt, alloc, &shared, &mut thread, &digest(0))?;
     answer(met, rt, alloc, &shared, &mut thread, &request(0))?;
+    ask(met, rt, alloc, &shared, &mut thread, &digest(15))?;
+    ask(met, rt, alloc, &shared, &mut thread, &request(15))?;
     next(met, rt, &shared, &mut thread)?;
     read(met, rt, &shared, &mut thread)?;
     list(met, rt, &shared, &mut thread)?;
+    list_all(met, rt, alloc, &shared, &mut thread)?;
     publish(met, rt, &shared, &mut thread)?;
     receive(met, rt, alloc, &shared, &mut thread)?;
     join(met, rt, alloc, &shared, &mut thread)?;
+    flush(met, rt, alloc, &shared, &mut thread)?;
     close(met, alloc, shared, thread)
 }

@@ -72,11 +72,14 @@ abbrev pub link_after : List ℕ → List ℕ → ℕ → Option ℕ → ℕ
 link_after heads next chain None = slice_index heads chain
 link_after heads next chain (Some frame) = slice_index next frame
 
--- the links after the one after `last` is set to a frame
+-- the heads, after the link behind `last` was set to a frame: it is the chain's head where `last`
+-- is none
 abbrev pub heads_with_link : List ℕ → ℕ → Option ℕ → ℕ → List ℕ
 heads_with_link heads chain None to = set heads chain to
 heads_with_link heads chain (Some frame) to = heads
 
+-- the frames' links, after the link behind `last` was set to a frame: they are unchanged where
+-- `last` is none
 abbrev pub next_with_link : List ℕ → Option ℕ → ℕ → List ℕ
 next_with_link next None to = next
 next_with_link next (Some frame) to = set next frame to

@@ -10,14 +10,15 @@ abbrev pub fresh_frames : ℕ → ℕ → FramesState
 fresh_frames frames size =
     record { page_size = size; frames = replicate frames (fresh_frame (replicate size 0)) }
 
--- the status and the body of a frame without a page, into which none was ever loaded
+-- the status of a frame without a page
 abbrev pub unused_status : Status
 unused_status = record { fixes = 0; dirty = false }
 
+-- the body of a frame into which no page was ever loaded
 abbrev pub fresh_body : List ℕ → FrameBody
 fresh_body bytes = record { key = None; generation = 0; bytes = bytes }
 
--- as many such bodies
+-- the bodies of this many frames into which no page was ever loaded, each of `size` zeros
 abbrev pub fresh_bodies : ℕ → ℕ → List FrameBody
 fresh_bodies frames size = replicate frames (fresh_body (replicate size 0))
 
@@ -42,7 +43,8 @@ loaded_frame page key fixes bytes f =
       bytes = bytes;
     }
 
--- the rest of such a frame, beside the page and its status
+-- the body of a frame after a page with these bytes and this rank was loaded into it: all but the
+-- page and its status
 abbrev pub filled_body : RankKey → List ℕ → FrameBody → FrameBody
 filled_body key bytes body =
     record { key = Some key; generation = body.generation + 1; bytes = bytes }

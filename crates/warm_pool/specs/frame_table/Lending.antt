@@ -27,7 +27,7 @@ bodies_row = vec_row frame_row global_row heap
 abbrev pub nth_body : List FrameBody → ℕ → FrameBody
 nth_body bodies i = slice_index_or bodies i (fresh_body [])
 
--- the same of the body of one frame
+-- the bytes of one of the bodies are lent: what is left in them becomes its bytes
 abbrev pub LendsBodyOf : MutBor bodies_row.Denot → ℕ → MutBor (List ℕ) → Fml
 LendsBodyOf s i r =
     Lends bodies_row (Array u8 0) s r

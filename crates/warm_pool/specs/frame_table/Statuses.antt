@@ -13,12 +13,14 @@ abbrev pub dirty_statuses : List Status → ℕ
 dirty_statuses [] = 0
 dirty_statuses (s ∷ statuses) = one_if s.dirty + dirty_statuses statuses
 
--- the status with one more pin, with one pin fewer, and with this dirty flag
+-- the status with one more pin
 abbrev pub status_fixed : Status → Status
 status_fixed s = record s { fixes = s.fixes + 1 }
 
+-- the status with one pin fewer
 abbrev pub status_unfixed : Status → Status
 status_unfixed s = record s { fixes = s.fixes - 1 }
 
+-- the status with this dirty flag
 abbrev pub status_marked : Bool → Status → Status
 status_marked dirty s = record s { dirty = dirty }

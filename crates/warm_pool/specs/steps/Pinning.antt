@@ -21,12 +21,13 @@ use Rattle.warm_pool.specs.steps.WritingBack.{WriteFails}
 abbrev pub current_slot : PoolState → ℕ → Slot
 current_slot s i = record { index = i; generation = (nth_frame s.frames i).generation }
 
--- the page of the frame has one more pin; or its pin count is the greatest, and nothing has changed
+-- where the pin succeeded, the page of the frame has one more
 abbrev pub FixesPage : PoolState → ℕ → Result Placed PoolFault → PoolState → Type 0
 FixesPage old i result new =
     (p : PageId) → (nth_frame old.frames i).page ≡ Some p
     → IfOk result (λ placed. AddsFix (view_of old) p placed.slot (view_of new))
 
+-- the frame's pin count is the greatest, and nothing has changed
 abbrev pub FixRefused : PoolState → ℕ → PoolFault → PoolState → Type 0
 FixRefused old i fault new = (fault ≡ FixesFull) × ((nth_frame old.frames i).fixes ≡ 2 ^ 32 - 1)
     × (new ≡ old)
@@ -35,8 +36,8 @@ FixRefused old i fault new = (fault ≡ FixesFull) × ((nth_frame old.frames i).
 abbrev pub IsNextFrameToLoad : PoolState → Option ℕ → Type 0
 IsNextFrameToLoad s frame = (h : HistoryView) → RankedBy s h → IsFrameToLoad h (view_of s) frame
 
--- The page is in the frame, with its device's bytes, this rank and this pin count. Before the write
--- of the page that was in the frame, the devices were so.
+-- The page is in the frame, with its device's bytes, this rank and this pin count. `before` are the
+-- devices before the write of the page that was in the frame.
 pub record LoadsInto (old : PoolState) (before : List DeviceState) (i : ℕ) (p : PageId)
     (key : RankKey) (n : ℕ) (new : PoolState) : Type 0 where
   pub bytes : List ℕ
@@ -68,8 +69,8 @@ pub record ReadFails (old : PoolState) (p : PageId) (new : PoolState) : Type 0 w
   pub devices : new.devices ≡ failed_at p.dev old.devices
   pub fails : FailsAt (view_of old) p.dev (view_of new)
 
--- the read of the page failed, or the write of the frame's page failed, before which the devices
--- were so
+-- the read of the page failed, or the write of the frame's page failed; `before` are the devices
+-- before that write
 abbrev pub FetchFails : PoolState → List DeviceState → ℕ → PageId → PoolFault → PoolState → Type 0
 FetchFails old before i p ReadFault new = ReadFails old p new
 FetchFails old before i p WriteBack new = WriteFails old before i new

@@ -12,13 +12,14 @@ use Rattle.warm_pool.specs.steps.WritingBack.{WritesBackAll}
 abbrev pub clear_if : Devices → Option PageId → Option PageId
 clear_if which page = if selects which page then None else page
 
--- a selected frame has a pinned page; or none has
+-- a selected frame has a pinned page
 pub record IsFixedIn (which : Devices) (frames : List FrameState) : Type 0 where
   pub frame : ℕ
   pub there : frame < length frames
   pub selected : IsTrue (selects which (nth_frame frames frame).page)
   pub fixed : 0 < (nth_frame frames frame).fixes
 
+-- no selected frame has a pinned page
 abbrev pub AreUnfixed : Devices → List FrameState → Type 0
 AreUnfixed which frames = (i : ℕ) → IsTrue (selects which (nth_frame frames i).page)
     → (nth_frame frames i).fixes ≡ 0

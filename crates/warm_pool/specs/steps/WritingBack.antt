@@ -41,7 +41,8 @@ pub record WriteFails (old : PoolState) (before : List DeviceState) (i : ℕ) (n
   pub others : (k : ℕ) → k ≢ page.dev → nth_device new.devices k ≡ nth_device before k
   pub fails : FailsAt (view_of old) page.dev (view_of new)
 
--- the same, where no device was called before the write
+-- The write-back of the frame's page failed, and no device was called before. Of the devices only
+-- that of the page has changed, and it is unflushed.
 abbrev pub CleanFails : PoolState → ℕ → PoolState → Type 0
 CleanFails old i new = WriteFails old old.devices i new
 
@@ -56,11 +57,12 @@ KeepsUnselected which old new =
     (k : ℕ) → ((p : PageId) → p.dev ≡ k → selects which (Some p) ≡ false)
     → nth_device new.devices k ≡ nth_device old.devices k
 
--- the pages of all selected frames were written back; that of one frame was, where it is selected
+-- the pages of all selected frames were written back
 abbrev pub WritesBackAll : Devices → PoolState → PoolState → Type 0
 WritesBackAll which old new =
     WritesBack (cleaned_selected which (length old.frames) old.frames) old new
 
+-- the page of this frame was written back, where it is selected
 abbrev pub WritesBackOne : Devices → PoolState → ℕ → PoolState → Type 0
 WritesBackOne which old i new =
     WritesBack (set old.frames i (clean_if which (nth_frame old.frames i))) old new

@@ -3,12 +3,13 @@ use Rattle.std.specs.List.{All}
 use Rattle.std.proofs.lemmas.Bool.{eqb-false, eqb-true}
 use Rattle.std.proofs.lemmas.List.{length-append, nil_from_length}
 use Rattle.warm_stamps.specs.declared.Reference.{Reference}
+use Rattle.warm_shards.specs.Parts.{part_of_batch}
 use Rattle.warm_shards.specs.Shards.{shard_of}
 use Rattle.warm_concurrent.specs.declared.call.ShardCall.TheVariants.{Absorb}
 use Rattle.warm_concurrent.specs.declared.call.ShardReply.TheVariants.{Done}
 use Rattle.warm_concurrent.specs.Attached.{known_of}
 use Rattle.warm_concurrent.specs.Clauses.{Got}
-use Rattle.warm_concurrent.specs.Whole.{AbsorbsPart, ArePartsOf, part_of}
+use Rattle.warm_concurrent.specs.Whole.{AbsorbsPart, ArePartsOf}
 use Rattle.warm_concurrent.proofs.Firsts.{one_first, same_first}
 use Rattle.warm_concurrent.proofs.Parts.{part_at, part_owned}
 use Rattle.warm_concurrent.proofs.history_calls.absorb_parts.Goals as goal
@@ -56,7 +57,7 @@ loop-part-preserved g c =
     let are = subst (λ n. ArePartsOf n batch c.args.parts.items) (sym c.requires.passes.count) c.requires.parts in
     let at = part_at (length old) k batch c.args.parts.items so_far c.next.new.self.rest.items part are goes_on i.number in
     let ends = c.in_default.ensures.ends in
-    let got : Got (known_of mid k) (Absorb (part_of (length old) k batch)) Done (known_of new k) =
+    let got : Got (known_of mid k) (Absorb (part_of_batch (length old) k batch)) Done (known_of new k) =
     subst (λ (rs : List Reference). Got (known_of mid k) (Absorb rs) Done (known_of new k)) (c.of.ensures ∙ at.1) ends.0 in
     record {
       of = c.do_in.ensures.passes;

@@ -23,7 +23,7 @@ unreachable-requires g c =
     let own : shard_of (length turns) page ≡ i = ap (λ k. shard_of k page) (sym size) ∙ sym c.shard_of-number.ensures.value in
     let made = c.in-Ok-Foreign.ensures.visited in
     is_here (λ t. Shows (λ bytes. FnOnceReturnsAt g.F.FnOnce c.args.f bytes t)) (length turns) i page c.in-Ok-Foreign.field-0 made.0 made.1 c.in-Ok-Foreign.field-0-is made.2.0 made.2.1
-    (may turns old i p are lt n made.0 made.1 c.self.invariant is made.3) own
+    (may turns old i p are lt n made.0 made.1 c.self.invariant.0 is made.3) own
 
 pub returns-in-Ok-Given-clause-looked : goal.returns-in-Ok-Given-clause-looked
 returns-in-Ok-Given-clause-looked g c =

@@ -1,6 +1,6 @@
-use Rattle.std.proofs.Common.{◌≡◌, ◌∷◌, [], ◌++◌, length, append_assoc, append-nil, sym, ap, subst, ◌∙◌, arith}
+use Rattle.std.proofs.Common.{◌≡◌, ℕ, ◌∷◌, [], ◌++◌, length, append_assoc, append-nil, sym, ap, subst, ◌∙◌, arith}
 use Rattle.std.proofs.lemmas.List.{length-append, nil_from_length}
-use Rattle.warm_shards.specs.Shards.{IsShardCount}
+use Rattle.warm_shards.specs.Shards.{shard_at}
 use Rattle.warm_concurrent.specs.Opening.{AreNumbered, openings, shards_from, shards_over}
 use Rattle.warm_concurrent.proofs.Numbering.{next_shard, none_first, numbered}
 use Rattle.warm_concurrent.proofs.sharing.Sharing.new.Goals as goal
@@ -33,5 +33,6 @@ invariant_of-result g c =
     ∙ ap (λ n. shards_from n 0 c.loop-node.yielded) i.count
     ∙ ap (λ ns. shards_from (length c.args.shards) 0 ns) whole in (
       rw (c.new-2.ensures.items, c.new-3.ensures.items) none_first,
-      subst AreNumbered (sym is) (numbered c.args.shards (subst IsShardCount c.count-count.ensures.value c.count-count.ensures.valid)),
+      subst (λ (n : ℕ). AreNumbered n (ss ++ openings c.new-2.result.items)) (sym c.id-id.ensures)
+          (subst (AreNumbered (shard_at c.args.shards 0).id) (sym is) (numbered c.args.shards c.count-count.ensures.shards)),
     )

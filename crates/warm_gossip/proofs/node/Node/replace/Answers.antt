@@ -17,3 +17,6 @@ invariant_of-self-2 g c =
       c.replace.ensures.ranked h c.self.invariant.0,
       warms_again h (view_of c.self.inside.pool) _ c.self.inside.warm_up (retired_count c.in_ok-old.ensures.done.retires.retired) c.self.invariant.1,
     )
+
+pub returns-in_err-old-clause-ranked : goal.returns-in_err-old-clause-ranked
+returns-in_err-old-clause-ranked g c = rw (← c.self.view_is) c.replace.ensures.ranked

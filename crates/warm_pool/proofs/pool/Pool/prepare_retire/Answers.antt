@@ -31,3 +31,6 @@ returns-then-is_fixed-clause-refused g c = rw (← c.self.view_is) (λ device si
 pub returns-in_err-map_err-clause-stopped : goal.returns-in_err-map_err-clause-stopped
 returns-in_err-map_err-clause-stopped g c = handed_on c.from_residual.result Fault _ (search rules) (λ _.
     of_err c.settle_device.result c.in_err-map_err.ensures.variant c.settle_device.ensures.left)
+
+pub returns-in_err-map_err-clause-unchanged : goal.returns-in_err-map_err-clause-unchanged
+returns-in_err-map_err-clause-unchanged g c = handed_on c.from_residual.result Fault _ (search rules) (λ isnt. absurd (isnt refl))

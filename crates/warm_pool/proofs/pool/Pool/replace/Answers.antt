@@ -1,6 +1,6 @@
 use Rattle.std.proofs.Common.{sym, ◌∙◌}
 use Rattle.warm_pool.proofs.HandedBack.{handed_down}
-use Rattle.warm_pool.proofs.RetireLemmas.{way_clean, way_unfixed, retire_view, retire_ranked, elsewhere_retired}
+use Rattle.warm_pool.proofs.RetireLemmas.{way_clean, way_unfixed, retire_view, retire_ranked, elsewhere_retired, others_retired}
 use Rattle.warm_pool.specs.declared.selection.Devices.TheVariants.{One}
 use Rattle.warm_pool.proofs.pool.Pool.replace.Goals as goal
 
@@ -21,6 +21,7 @@ returns-in-Ok-clause-done g c = record {
   retires = record {
     retired = retire_view _ _ _ c.args.dev _ _ c.in-Ok.ensures.way c.page_size.ensures c.install_device.ensures.retired;
     elsewhere = elsewhere_retired c.args.self.now c.prepare_retire.new.self c.install_device.new.self c.args.dev _ c.prepare_retire.ensures.elsewhere c.install_device.ensures.retired;
+    others = others_retired c.args.self.now c.prepare_retire.new.self c.install_device.new.self c.args.dev _ c.prepare_retire.ensures.others c.install_device.ensures.retired;
   };
   handed_back = handed_down (One c.args.dev) _ _ c.args.dev _ c.in-Ok.ensures.way.down c.install_device.ensures.handed_back;
 }
@@ -28,6 +29,9 @@ returns-in-Ok-clause-done g c = record {
 pub returns-in-Err-clause-refused : goal.returns-in-Err-clause-refused
 returns-in-Err-clause-refused g c = record {
   cause = c.in-Err.ensures.refused (g.D.PageDevice.state c.args.device) (sym c.page_size.ensures);
+  unchanged = c.in-Err.ensures.unchanged;
   stopped = c.in-Err.ensures.stopped;
   elsewhere = c.in-Err.ensures.elsewhere;
+  others = c.in-Err.ensures.others;
+  once = c.in-Err.ensures.once;
 }

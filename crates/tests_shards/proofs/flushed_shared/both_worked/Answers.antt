@@ -1,0 +1,11 @@
+use denote.Param.Send.{sendable}
+use Rattle.std.proofs.Crossing.{crosses}
+use Rattle.warm_devices.proofs.calls.CallsMade.TheSendSync.{the_send as calls_send}
+use Rattle.warm_concurrent.proofs.Sent.{attached_send, shards_sync}
+use Rattle.tests_shards.proofs.flushed_shared.both_worked.Goals as goal
+
+pub join-first-requires-send-F : goal.join-first-requires-send-F
+join-first-requires-send-F g c κs within = let r = c.type_bounds.sync-R in search (sendable, crosses, calls_send, attached_send, shards_sync) depth 30
+
+pub join-first-requires-send-A : goal.join-first-requires-send-A
+join-first-requires-send-A g c κs within = search (sendable, crosses, calls_send, attached_send) depth 20
