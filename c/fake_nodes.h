@@ -555,7 +555,7 @@ static int fake_put(
 }
 
 /* A frame is its kind, its horizon, and of digests one byte for each bucket, of a request one byte
- * for each of buckets 0 to 7. */
+ * for each of buckets 0 to 7, of entries the bucket and, high byte first, how many there are. */
 int node_offer_frame(uint16_t replica, uint64_t horizon, const node_table *table, uint8_t *frame,
     size_t room, size_t *length) {
     MUST(replica > 0);
@@ -574,13 +574,15 @@ int node_want_frame(uint16_t replica, uint64_t horizon, uint64_t buckets, uint8_
     return status;
 }
 
-int node_read_frame(
-    size_t shards, uint64_t limit, const uint8_t *frame, size_t length, node_frame *what) {
+/* Entries are of pages of shards 0 and 2, where there are two, and that shard. */
+int node_read_frame(size_t shards, uint64_t limit, uint64_t horizon_limit, const uint8_t *frame,
+    size_t length, node_frame *what) {
     if (length < 10) return WARM_TRUNCATED;
-    if (frame[1] > limit) return WARM_LATE_HORIZON;
+    if (frame[1] > limit || frame[1] > horizon_limit) return WARM_LATE_HORIZON;
     if (!fake_memory()) return WARM_MEMORY;
     *what = (node_frame){.kind = frame[0], .horizon = frame[1]};
-    if (frame[0] == NODE_ENTRIES) what->shards = shards > 2 ? 5 : 1; /* of shards 0 and 2 */
+    if (frame[0] == NODE_ENTRIES) what->entries = (size_t)frame[3] << 8 | frame[4];
+    if (what->entries > 0) what->shards = shards > 2 && what->entries > 1 ? 5 : 1;
     for (int bucket = 0; frame[0] == NODE_REQUEST && bucket < 8; bucket++)
         what->buckets |= (uint64_t)frame[2 + bucket] << bucket;
     return WARM_OK;
@@ -605,19 +607,26 @@ int node_differing(
     return WARM_OK;
 }
 
-/* Two frames of a bucket of which something is known, the second after page 1; an empty one of any
- * other. */
+/* Two frames of a bucket of which something is known, of page 1 and of page 2; an empty one of any
+ * other, where that is asked for. */
 int node_send_since(node *of, uint8_t bucket, uint64_t since, bool has_after, node_page after,
-    uint8_t *frame, size_t room, size_t *length, bool *more, node_page *last) {
+    bool even_empty, uint8_t *frame, size_t room, size_t *length, size_t *entries, bool *more,
+    node_page *last) {
     fake *its = fake_in(of);
+    bool is_empty = its->known == 0;
     if (bucket > 63) return fake_out(of, WARM_BAD_BUCKET);
     MUST(since == 0 && (!has_after || after.no == 1));
-    int status = fake_put(
-        NODE_ENTRIES, its->horizon, its->known > 0 ? FAKE_FULL : FAKE_EMPTY, frame, room, length);
-    if (status != WARM_OK) return fake_out(of, status);
-    frame[2] = bucket;
-    *more = its->known > 0 && !has_after;
-    if (*more) last->no = 1;
+    if (!fake_memory()) return fake_out(of, WARM_MEMORY);
+    if (even_empty || !is_empty) {
+        int status = fake_put(
+            NODE_ENTRIES, its->horizon, is_empty ? FAKE_EMPTY : FAKE_FULL, frame, room, length);
+        if (status != WARM_OK) return fake_out(of, status);
+        frame[2] = bucket;
+        frame[4] = !is_empty;
+    }
+    *entries = !is_empty;
+    *more = !is_empty && !has_after;
+    if (!is_empty) last->no = has_after ? 2 : 1;
     return fake_out(of, WARM_OK);
 }
 

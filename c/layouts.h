@@ -53,11 +53,12 @@ FIELD_IS(node_failure, dev, 8, 2);
 FIELD_IS(node_failure, what, 10, 2);
 FIELD_IS(node_failure, error, 12, 4);
 SIZE_IS(node_table, 2048);
-SIZE_IS(node_frame, 32);
+SIZE_IS(node_frame, 40);
 FIELD_IS(node_frame, horizon, 0, 8);
 FIELD_IS(node_frame, shards, 8, 8);
 FIELD_IS(node_frame, buckets, 16, 8);
-FIELD_IS(node_frame, kind, 24, 1);
+FIELD_IS(node_frame, entries, 24, 8);
+FIELD_IS(node_frame, kind, 32, 1);
 /* node_pin writes a slot's index and the shard after it as one number, and so does put_place. */
 _Static_assert(__BYTE_ORDER__ == __ORDER_LITTLE_ENDIAN__, "the lowest byte of a number is first");
 _Static_assert(sizeof(shard) % LINE == 0 && sizeof(opened) % LINE == 0, "whole lines");

@@ -73,8 +73,6 @@ int node_resident(node *handle, node_page page, bool *resident);
 int node_victim(node *handle, bool *found, node_page *page);
 int node_list(node *handle, node_page *pages, size_t room, size_t *count);
 int node_step(node *handle, bool *found, node_page *page);
-int node_send_since(node *handle, uint8_t bucket, uint64_t since, bool has_after, node_page after,
-    uint8_t *frame, size_t room, size_t *length, bool *more, node_page *last);
 int node_horizon(node *handle, uint64_t time, uint64_t *horizon);
 int node_write_back(node *handle);
 int node_write_back_some(node *handle, size_t limit, size_t *left);
@@ -96,7 +94,7 @@ int node_load(node *handle, int fd, uint64_t length);
  */
 
 /* Pins a page as node_pin does, and writes where its bytes lie, as node_lend does.
- * Refused: what node_pin is refused with; the slot and the pointer are then as they were. */
+ * Refused as node_pin is; the slot and the pointer are unchanged then. */
 int node_pin_lend(node *handle, node_page page, node_slot *slot, const uint8_t **bytes);
 
 /* Pins a page as node_pin does, but with these bytes in place of a read, and writes its slot. They
@@ -120,6 +118,16 @@ int node_dirty(node *handle, node_page page, bool *dirty);
  * the last frame, frame and page are as they were. */
 int node_next_dirty(node *handle, size_t from, bool *found, size_t *frame, node_page *page);
 
+/* Writes the frame of the first 1000 entries of a bucket, of those with a stamp from the time since
+ * on and, if has_after, of a page greater than after; its length; how many entries it has; whether
+ * more of them follow; and the page of the last one. Where there is none, last is as it was; so are
+ * frame and length, unless even_empty.
+ * Refused: WARM_BAD_BUCKET; WARM_MEMORY; WARM_BUFFER_TOO_SMALL, where length is the room that it
+ * needs. */
+int node_send_since(node *handle, uint8_t bucket, uint64_t since, bool has_after, node_page after,
+    bool even_empty, uint8_t *frame, size_t room, size_t *length, size_t *entries, bool *more,
+    node_page *last);
+
 /* The digests of all buckets, that of bucket 0 first. */
 typedef struct node_table {
     uint8_t digests[64][32];
@@ -132,14 +140,17 @@ typedef struct node_frame {
     uint64_t horizon;
     uint64_t shards;  /* of entries: bit i where an entry is of a page of shard i; else 0 */
     uint64_t buckets; /* of a request: bit i where bucket i is requested; else 0 */
+    size_t entries;   /* how many entries it has; 0 of digests and of a request */
     uint8_t kind;     /* NODE_ENTRIES, NODE_DIGESTS or NODE_REQUEST */
 } node_frame;
 
-/* Writes what a frame is, which speaks of no time later than the limit.
+/* Writes what a frame is, which speaks of no time later than the limit, and whose horizon is by a
+ * limit of its own, too.
  * Refused: WARM_TRUNCATED to WARM_BAD_ORDER, by the first fault from left to right;
- * WARM_LATE_HORIZON, WARM_LATE_STAMP; WARM_MEMORY at any point. */
-int node_read_frame(
-    size_t shards, uint64_t limit, const uint8_t *frame, size_t length, node_frame *what);
+ * WARM_LATE_HORIZON, where it is later than one of both limits; WARM_LATE_STAMP; WARM_MEMORY at any
+ * point. */
+int node_read_frame(size_t shards, uint64_t limit, uint64_t horizon_limit, const uint8_t *frame,
+    size_t length, node_frame *what);
 
 /* Of a frame of entries: raises the node to its horizon, and takes in the entries whose pages are
  * of the shard. Of any other frame: raises the node to its horizon. All or nothing.

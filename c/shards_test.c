@@ -160,7 +160,7 @@ static void call_histories(warm *handle, size_t all, bool is_shared) {
 }
 
 static void call_messages(warm *handle, size_t all, bool is_shared) {
-    const uint8_t entries[10] = {NODE_ENTRIES, 1}, request[10] = {NODE_REQUEST, 1, 1, 1};
+    const uint8_t entries[10] = {NODE_ENTRIES, 1, 0, 0, 2}, request[10] = {NODE_REQUEST, 1, 1, 1};
     uint8_t frame[66];
     size_t number;
     warm_sending sending = {.bucket = 5};

@@ -12,9 +12,6 @@
 #include <stdlib.h>
 #include <string.h>
 
-/* The length of a message of entries that has none (docs/FORMATS.md). */
-enum { EMPTY_MESSAGE = 23 };
-
 static unsigned lowest(uint64_t set) { return (unsigned)__builtin_ctzll(set); }
 
 static uint64_t without_lowest(uint64_t set) { return set & (set - 1); }
@@ -264,16 +261,17 @@ int warm_offer(warm *handle, void *message, size_t room, size_t *length) {
  * was, too. */
 int warm_send(warm *handle, warm_sending *sending, void *message, size_t room, size_t *length) {
     opened *its = handle->at;
+    size_t entries = 0;
     bool more = false;
     node_page after = page_in(sending->after), last = after;
     if (its == NULL) return WARM_CLOSED;
     shard *in = &its->shards[sending->bucket % its->count];
     bool is_locked = enter(its, in);
     int status = node_send_since(&in->node, sending->bucket, sending->since, sending->has_after,
-        after, message, room, length, &more, &last);
+        after, true, message, room, length, &entries, &more, &last);
     leave(in, is_locked);
     if (status != WARM_OK) return status;
-    if (*length > EMPTY_MESSAGE) sending->has_after = true;
+    if (entries > 0) sending->has_after = true;
     sending->after = page_out(last);
     sending->more = more;
     return WARM_OK;
@@ -294,23 +292,20 @@ int warm_limit_history(warm *handle, uint64_t horizon, size_t pages) {
     return WARM_OK;
 }
 
-/* How many entries a message of entries has: its count is the first number behind its header, which
- * has a horizon in one of the two formats (docs/FORMATS.md). It was read before, so that it is
- * there. */
-static size_t entries_in(const uint8_t *message) {
-    const uint8_t *at = message + (message[3] == '1' ? 11 : 19);
-    return (size_t)at[0] << 24 | (size_t)at[1] << 16 | (size_t)at[2] << 8 | at[3];
+/* What a message is, which keeps the limits of its times; or why it is refused. */
+static int read_message(
+    const opened *its, const uint8_t *message, size_t length, node_frame *what) {
+    uint64_t limit = atomic_load(&its->of->limit);
+    uint64_t horizon_limit = atomic_load(&its->of->horizon_limit);
+    return node_read_frame(its->count, limit, horizon_limit, message, length, what);
 }
 
-/* Whether a message that was read keeps the limits of the history, or which one not. */
-static int keeps_limits(warm *handle, const node_frame *what, const uint8_t *message) {
-    replica *of = ((opened *)handle->at)->of;
-    size_t known, limit = atomic_load(&of->page_limit);
-    if (what->horizon > atomic_load(&of->horizon_limit)) return WARM_LATE_HORIZON;
-    if (limit == SIZE_MAX || what->kind != NODE_ENTRIES) return WARM_OK;
+/* Whether the history has room for so many entries, each of which may be of a new page. */
+static int keeps_pages(warm *handle, size_t entries) {
+    size_t known, limit = atomic_load(&((opened *)handle->at)->of->page_limit);
+    if (limit == SIZE_MAX || entries == 0) return WARM_OK;
     warm_history_length(handle, &known);
-    size_t more = entries_in(message);
-    return more == 0 || (known <= limit && more <= limit - known) ? WARM_OK : WARM_TOO_MANY_PAGES;
+    return known <= limit && entries <= limit - known ? WARM_OK : WARM_TOO_MANY_PAGES;
 }
 
 /* Each shard takes the horizon of a message of entries, and those of its pages. */
@@ -356,8 +351,8 @@ int warm_receive(warm *handle, const void *message, size_t length) {
     node_frame what;
     answers given;
     if (its == NULL) return WARM_CLOSED;
-    int status = node_read_frame(its->count, atomic_load(&its->of->limit), message, length, &what);
-    if (status == WARM_OK) status = keeps_limits(handle, &what, message);
+    int status = read_message(its, message, length, &what);
+    if (status == WARM_OK) status = keeps_pages(handle, what.entries);
     if (status == WARM_OK) status = take_in(its, &what, message, length, &given);
     if (status == WARM_OK) its->waiting = given;
     return status;
@@ -370,38 +365,30 @@ static void go_on(answers *waiting, bool more, node_page last) {
     if (!more) waiting->buckets = without_lowest(waiting->buckets);
 }
 
-/* Writes the message of the next entries of the lowest bucket, and its length. A bucket without any
- * is passed over, with a length of 0, and nothing is written to the message then. */
-static int next_entries(opened *its, uint8_t *message, size_t room, size_t *length) {
+/* Writes the message of the next entries of the lowest bucket, its length, and how many they are. A
+ * bucket without any is passed over: no message and no length is written then. */
+static int next_entries(
+    opened *its, uint8_t *message, size_t room, size_t *length, size_t *entries) {
     answers *waiting = &its->waiting;
-    uint8_t bucket = (uint8_t)lowest(waiting->buckets), before[EMPTY_MESSAGE];
-    size_t kept = room < EMPTY_MESSAGE ? room : EMPTY_MESSAGE, needed = 0;
+    uint8_t bucket = (uint8_t)lowest(waiting->buckets);
     node_page last = waiting->after;
     bool more = false;
-    memcpy(before, message, kept);
     shard *in = &its->shards[bucket % its->count];
     bool is_locked = enter(its, in);
-    int status = node_send_since(&in->node, bucket, 0, waiting->has_after, waiting->after, message,
-        room, &needed, &more, &last);
+    int status = node_send_since(&in->node, bucket, 0, waiting->has_after, waiting->after, false,
+        message, room, length, entries, &more, &last);
     leave(in, is_locked);
-    if (status != WARM_OK && status != WARM_BUFFER_TOO_SMALL) return status;
-    bool is_empty = needed == EMPTY_MESSAGE;
-    if (is_empty) memcpy(message, before, kept);
-    *length = is_empty ? 0 : needed;
-    if (!is_empty && status != WARM_OK) return status;
-    go_on(waiting, more, last);
-    return WARM_OK;
+    if (status == WARM_OK) go_on(waiting, more, last);
+    return status;
 }
 
 int warm_next_answer(warm *handle, void *message, size_t room, size_t *length) {
     opened *its = handle->at;
     if (its == NULL) return WARM_CLOSED;
-    size_t written = 0;
     while (its->waiting.buckets != 0) {
-        int status = next_entries(its, message, room, &written);
-        if (status == WARM_MEMORY) return status;
-        if (written != 0) *length = written;
-        if (status != WARM_OK || written != 0) return status;
+        size_t entries = 0;
+        int status = next_entries(its, message, room, length, &entries);
+        if (status != WARM_OK || entries > 0) return status;
     }
     if (its->waiting.wanted == 0) {
         *length = 0;

@@ -62,42 +62,65 @@ static void test_great_batches(void) {
     nothing_left();
 }
 
-/* Frames that the limits of the history refuse change nothing. A fake frame has its count where one
- * of a format has it. */
-static void test_limits(void) {
-    uint8_t entries[FAKE_EMPTY] = {NODE_ENTRIES, 3, 0, '2', [21] = 1, [22] = 44},
-            older[FAKE_EMPTY] = {NODE_ENTRIES, 3, 0, '1', [13] = 1, [14] = 44};
-    const uint8_t request[10] = {NODE_REQUEST, 3, 1, 1};
-    const warm_reference seen[] = {{.no = 1, .replica = 1}, {.no = 2, .replica = 1}};
-    uint8_t frame[66];
-    size_t length;
+/* A horizon is within both of its limits. */
+static void test_limits_of_horizons(void) {
+    const uint8_t frames[][66] = {{NODE_ENTRIES, 3, 0, 0, 1}, {NODE_DIGESTS, 3}, {NODE_REQUEST, 3}};
     warm handle = {0};
     MUST(warm_limit_history(&handle, 1, 1) == WARM_CLOSED);
     open_shards(&handle, 4);
+    for (int kind = 0; kind < 3; kind++) {
+        for (uint64_t limit = 2; limit < 5; limit++) {
+            for (uint64_t other = 2; other < 5; other++) {
+                int expected = limit < 3 || other < 3 ? WARM_LATE_HORIZON : WARM_OK;
+                OK(warm_limit(&handle, limit));
+                OK(warm_limit_history(&handle, other, SIZE_MAX));
+                MUST(warm_receive(&handle, frames[kind], sizeof frames[kind]) == expected);
+            }
+        }
+    }
+    MUST(known(&handle) == 4); /* one entry each time that none of them is exceeded */
+    OK(warm_abandon(&handle));
+}
+
+/* What is received with this limit of pages, of a history that knows two, and how many it knows
+ * then. */
+static void receive_by(size_t limit, const uint8_t frame[66], int expected, size_t then) {
+    const warm_reference seen[] = {{.no = 1, .replica = 1}, {.no = 2, .replica = 1}};
+    const uint8_t request[10] = {NODE_REQUEST, 3, 1, 1};
+    uint8_t answer[FAKE_FULL];
+    warm handle = {0};
+    size_t length = 0;
+    open_shards(&handle, 4);
     OK(warm_absorb(&handle, seen, 2));
     OK(warm_receive(&handle, request, sizeof request));
-    OK(warm_limit_history(&handle, 2, SIZE_MAX));
-    MUST(warm_receive(&handle, entries, sizeof entries) == WARM_LATE_HORIZON &&
-         warm_receive(&handle, request, sizeof request) == WARM_LATE_HORIZON);
-    for (size_t limit = 0; limit < 303; limit += 301) { /* 300 entries, and two pages known */
-        OK(warm_limit_history(&handle, 3, limit));
-        MUST(warm_receive(&handle, entries, sizeof entries) == WARM_TOO_MANY_PAGES);
-        MUST(warm_receive(&handle, older, sizeof older) == WARM_TOO_MANY_PAGES);
+    OK(warm_limit_history(&handle, UINT64_MAX, limit));
+    MUST(warm_receive(&handle, frame, 66) == expected && known(&handle) == then);
+    if (expected != WARM_OK) { /* the answers to what came before still wait */
+        OK(warm_next_answer(&handle, answer, sizeof answer, &length));
+        MUST(length == FAKE_FULL);
     }
-    MUST(known(&handle) == 2);
-    OK(warm_next_answer(&handle, frame, sizeof frame, &length));
-    MUST(length == FAKE_FULL); /* the answers to what came before still wait */
-    OK(warm_receive(&handle, request, sizeof request)); /* which has no entry */
-    OK(warm_limit_history(&handle, 3, 302));
-    OK(warm_receive(&handle, entries, sizeof entries));
-    MUST(known(&handle) == 4); /* of a fake frame each of two shards takes one page */
-    MUST(warm_receive(&handle, older, sizeof older) == WARM_TOO_MANY_PAGES);
-    OK(warm_limit_history(&handle, 3, 304));
-    OK(warm_receive(&handle, older, sizeof older));
-    entries[21] = entries[22] = 0;
-    OK(warm_limit_history(&handle, 3, 0));
-    OK(warm_receive(&handle, entries, sizeof entries)); /* it has none */
     OK(warm_abandon(&handle));
+    nothing_left();
+}
+
+/* Each entry counts as a new page, whichever it is. Frames without entries have any limit. */
+static void test_limits_of_pages(void) {
+    const uint8_t none[66] = {NODE_ENTRIES, 3}, one[66] = {NODE_ENTRIES, 3, 0, 0, 1},
+                  many[66] = {NODE_ENTRIES, 3, 0, 300 >> 8, 300 & 255},
+                  digests[66] = {NODE_DIGESTS, 3, 1, 1, 1},
+                  request[66] = {NODE_REQUEST, 3, 1, 1, 1};
+    for (size_t limit = 0; limit < 4; limit++) {
+        receive_by(limit, none, WARM_OK, 2);
+        receive_by(limit, digests, WARM_OK, 2);
+        receive_by(limit, request, WARM_OK, 2);
+    }
+    for (size_t limit = 0; limit < 3; limit++) receive_by(limit, one, WARM_TOO_MANY_PAGES, 2);
+    receive_by(3, one, WARM_OK, 3); /* a fake shard takes one page of a frame, whatever it has */
+    for (size_t limit = 0; limit < 302; limit++) receive_by(limit, many, WARM_TOO_MANY_PAGES, 2);
+    receive_by(302, many, WARM_OK, 4);
+    receive_by(303, many, WARM_OK, 4);
+    receive_by(SIZE_MAX - 1, many, WARM_OK, 4);
+    receive_by(SIZE_MAX, many, WARM_OK, 4);
 }
 
 static bool says(int status, const char *words) {
@@ -170,7 +193,7 @@ static void test_sending(void) {
     MUST(length == FAKE_FULL && message[2] == 1 && sending.has_after && sending.more &&
          sending.after.no == 1);
     OK(warm_send(&handle, &sending, message, sizeof message, &length));
-    MUST(length == FAKE_FULL && sending.has_after && !sending.more && sending.after.no == 1 &&
+    MUST(length == FAKE_FULL && sending.has_after && !sending.more && sending.after.no == 2 &&
          sending.bucket == 1 && sending.since == 0);
     OK(warm_abandon(&handle));
     nothing_left();
@@ -178,7 +201,7 @@ static void test_sending(void) {
 
 /* Each allocation of a call on the whole fails in turn, and nothing is left of it. */
 static void test_memory(void) {
-    const uint8_t entries[10] = {NODE_ENTRIES, 1};
+    const uint8_t entries[10] = {NODE_ENTRIES, 1, 0, 0, 2};
     uint8_t frame[66];
     size_t length = 77;
     bool found;
@@ -279,6 +302,9 @@ static void test_answers(void) {
     OK(warm_next_answer(&handle, frame, sizeof frame, &length));
     /* no request follows an answer to one */
     MUST(length == 0 && frame[0] == 'x' && frame[22] == 'x');
+    OK(warm_receive(&handle, (uint8_t[10]){NODE_REQUEST, 3, 1, 0, 1, 0, 1}, 10));
+    OK(warm_next_answer(&handle, frame, 0, &length)); /* none of these buckets has anything */
+    MUST(length == 0 && frame[0] == 'x');
     OK(warm_receive(&handle, (uint8_t[10]){NODE_REQUEST, 3, 1, 1}, 10));
     OK(warm_receive(&handle, (uint8_t[10]){NODE_ENTRIES, 3}, 10)); /* which is not answered */
     OK(warm_next_answer(&handle, frame, sizeof frame, &length));
@@ -442,7 +468,8 @@ static void test_horizons(void) {
 int main(void) {
     test_batches();
     test_great_batches();
-    test_limits();
+    test_limits_of_horizons();
+    test_limits_of_pages();
     test_words();
     test_lists();
     test_sending();

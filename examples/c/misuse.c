@@ -539,6 +539,9 @@ static void limited_frames(void) {
     EXPECT(WARM_TRUNCATED, warm_receive(&handle, good, sizeof good - 1));
     knows(&handle, 0, 0);
     OK(warm_receive(&handle, frame, length)); /* it has no entries */
+    OK(send_behind(&other, 7, false, (warm_page){0}, frame, sizeof frame, &length));
+    MUST(length == 23);
+    OK(warm_receive(&handle, frame, length)); /* nor has this one, of entries */
     OK(warm_limit_history(&handle, 12, 1));
     OK(warm_receive(&handle, good, sizeof good));
     EXPECT(WARM_TOO_MANY_PAGES, warm_receive(&handle, good, sizeof good)); /* though its page is known */
@@ -567,6 +570,9 @@ static void late_frames(void) {
     OK(warm_limit(&handle, 19));
     EXPECT(WARM_LATE_STAMP, warm_receive(&handle, good, sizeof good));
     EXPECT(WARM_LATE_STAMP, warm_receive(&handle, narrow, sizeof narrow));
+    OK(warm_limit_history(&handle, 11, SIZE_MAX));
+    EXPECT(WARM_LATE_HORIZON, warm_receive(&handle, good, sizeof good)); /* by the other limit, which comes first */
+    OK(warm_limit_history(&handle, UINT64_MAX, SIZE_MAX));
     EXPECT(WARM_TRUNCATED, warm_receive(&handle, good, sizeof good - 1)); /* what is no frame is so whatever the limit is */
     knows(&handle, 0, 0);
     OK(warm_offer(&other, frame, sizeof frame, &length)); /* a frame of digests has a horizon alone */

@@ -1,5 +1,5 @@
 -- What each call does to what an open handle holds, and what it writes.
-use Rattle.std.specs.Prelude.{ℕ, ◌<◌, ◌≤◌, ◌≡◌, List, map, length, Option, IfSome, Result, Ok, Err}
+use Rattle.std.specs.Prelude.{ℕ, ◌<◌, ◌≡◌, List, map, length, Option, IfSome, Result, Ok, Err}
 use Rattle.std.specs.Prelude.{Contains}
 use Rattle.warm_stamps.specs.Replicas.{IsReplica}
 use Rattle.warm_stamps.specs.declared.PageId.{PageId}
@@ -7,9 +7,6 @@ use Rattle.warm_history.specs.Histories.{HistoryView, IsHistory, entries_of}
 use Rattle.warm_dump.specs.Reading.{IsDump, IsDumpRefused}
 use Rattle.warm_dump.specs.Writing.{StopsWriting}
 use Rattle.warm_frames.specs.declared.message.Message.{Message}
-use Rattle.warm_frames.specs.declared.limit.TimeFault.{TimeFault}
-use Rattle.warm_frames.specs.declared.limit.TimeFault.TheVariants.{LateHorizon, LateStamp}
-use Rattle.warm_frames.specs.Limits.{StampsBy, entries_in, horizon_in}
 use Rattle.warm_frames.specs.Encoding.{encoding}
 use Rattle.warm_pool.specs.Keeping.{KeepsBytes}
 use Rattle.warm_pool.specs.State.{IsSettled}
@@ -48,8 +45,8 @@ abbrev pub SameOpen : OpenNode → OpenNode → Type 0
 SameOpen old new = SameView old.node new.node × KeepsBytes old.node.pool new.node.pool
     × SameDevices old new
 
--- The node has answered this call so, and left its devices and the dirty flags of its frames as
--- after this reply. The handle is over the devices that it was given.
+-- The node has answered this call with this reply, and left its devices and the dirty flags of its
+-- frames as they are after it. The handle is over the devices that it was given.
 abbrev pub Replies : Call → OpenNode → Reply → OpenNode → Type 0
 Replies call old reply new = Goes old.node call reply new.node
     × DevicesAfter old.node call reply new.node × SameDevices old new
@@ -157,13 +154,6 @@ PutsFrame message before len after len' (Err BufferTooSmall) =
     × (len' ≡ length (encoding message))
 PutsFrame message before len after len' (Err (Node Memory)) = (after ≡ before) × (len' ≡ len)
 PutsFrame message before len after len' (Err why) = ⊥
-
--- why a message is refused that speaks of a time later than the limit: its horizon is later, or
--- else a stamp of an entry is
-abbrev pub IsLate : ℕ → Message → TimeFault → Type 0
-IsLate limit message LateHorizon = limit < horizon_in message
-IsLate limit message LateStamp = (horizon_in message ≤ limit)
-    × (StampsBy limit (entries_in message) → ⊥)
 
 -- Dumps
 

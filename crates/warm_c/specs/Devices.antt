@@ -21,7 +21,7 @@ use Rattle.warm_c.specs.Handles.{DescriptorsDiffer, HaveOneFile}
 abbrev pub devices_after : ℕ → WarmDevice → OpenNode → List WarmDevice
 devices_after dev d h = set h.devices dev d
 
--- the device, as the pool has it then
+-- the new device, as the pool has it after it replaced another
 abbrev pub made_device : WarmDevice → OpenNode → DeviceState
 made_device d h = fd_opened d.fd d.pages h.node.pool.page_size
 
@@ -46,7 +46,7 @@ pub record Replaced (dev : ℕ) (d : WarmDevice) (old new : OpenNode) : Type 0 w
   pub devices : new.devices ≡ devices_after dev d old
   pub keeps : KeepsHistory old new
 
--- why it is not replaced; the devices are as they were
+-- why a device is not replaced; the devices are as they were
 abbrev pub ReplaceRefused : ℕ → WarmDevice → OpenNode → Refusal → OpenNode → Type 0
 ReplaceRefused dev d old (Node Memory) new = new ≡ old
 ReplaceRefused dev d old (Node (Pool NoDevice)) new =
@@ -77,7 +77,7 @@ MayNotStand dev d h why = (why ≡ Node Memory)
     ⊎ ((why ≡ Node (Pool NoDevice)) × (MayStand dev d h → ⊥))
     ⊎ ((why ≡ SameFile) × MayStand dev d h × HaveOneFile (devices_after dev d h))
 
--- whether it could
+-- whether the new device could stand in the place of the old one; nothing has changed
 abbrev pub SaysMayStand : ℕ → WarmDevice → OpenNode → Ending → OpenNode → Type 0
 SaysMayStand dev d h (Ok given) new = MayStand dev d h × DescriptorsDiffer (devices_after dev d h)
     × (new ≡ h)

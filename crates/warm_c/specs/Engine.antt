@@ -43,7 +43,7 @@ pub record PinnedWithZeros (page : WarmPage) (slot : PinnedSlot) (old new : Open
   pub frame : TakesZeroed old.node.pool (page_of_c page) (pinned_slot slot) new.node.pool
   pub rest : SameButPool old new
 
--- the page is pinned so, or the call says why not
+-- the page is pinned, has zeros, and is dirty; or the call says why not
 abbrev pub PinsZeroed : WarmPage → PinnedSlot → PinnedSlot → OpenNode → Ending → OpenNode → Type 0
 PinsZeroed page before after old (Ok given) new = PinnedWithZeros page after old new
 PinsZeroed page before after old (Err (Node (Pool why))) new =
@@ -106,7 +106,7 @@ ForgetsPages dev from old (Err (Node (Pool why))) new =
     ForgetRefused old.node.pool dev from why new.node.pool × SameButPool old new
 ForgetsPages dev from old (Err why) new = ⊥
 
--- whether they would be forgotten
+-- whether the pages of a device from a number on would be forgotten; nothing has changed
 abbrev pub SaysMayForget : ℕ → ℕ → OpenNode → Ending → OpenNode → Type 0
 SaysMayForget dev from old (Ok given) new = MayForget old.node.pool dev from × (new ≡ old)
 SaysMayForget dev from old (Err (Node (Pool why))) new =

@@ -24,10 +24,11 @@ fd_device fd pages page_size waiting failures calls = record {
   unfailing = false;
 }
 
+-- what an `FdDevice` shows
 abbrev pub fd_state : FdDevice → DeviceState
 fd_state f = fd_device f.file.descriptor.fd f.pages f.page_size f.waiting f.failures f.calls.made
 
--- one of which nothing was asked yet
+-- a device over a descriptor of which nothing was asked yet
 abbrev pub fd_opened : ℤ → ℕ → ℕ → DeviceState
 fd_opened fd pages page_size = fd_device fd pages page_size false 0 no_calls
 

@@ -1,16 +1,18 @@
 -- Frames beside a node: what a frame is, and frames of what was gathered from all shards.
-use Rattle.std.specs.Prelude.{◌≡◌, ◌⊎◌, ℕ, List, Ok, Err}
+use Rattle.std.specs.Prelude.{◌≡◌, ◌⊎◌, ◌<◌, ◌≤◌, ℕ, List, length, Ok, Err}
 use Rattle.warm_stamps.specs.Replicas.{IsReplica}
 use Rattle.warm_digest.specs.BucketDigests.{MarksDiffering}
+use Rattle.warm_frames.specs.declared.limit.TimeFault.{TimeFault}
+use Rattle.warm_frames.specs.declared.limit.TimeFault.TheVariants.{LateHorizon, LateStamp}
 use Rattle.warm_frames.specs.declared.message.Message.{Message}
 use Rattle.warm_frames.specs.declared.message.Message.TheVariants.{Entries, Digest, Want}
 use Rattle.warm_frames.specs.Encoding.{Encodes}
-use Rattle.warm_frames.specs.Limits.{SpeaksBy, entries_in, horizon_in}
+use Rattle.warm_frames.specs.Limits.{SpeaksBy, StampsBy, entries_in, horizon_in}
 use Rattle.warm_frames.specs.Reading.{GivesReading, read_frame, reserved_by}
 use Rattle.warm_shards.specs.Shards.{IsShardCount}
 use Rattle.warm_c.specs.declared.frame_parts.NodeFrame.{NodeFrame}
 use Rattle.warm_c.specs.declared.status.Refusal.TheVariants.{BadReplica, BadShards, Frame, Late}
-use Rattle.warm_c.specs.Calls.{Ending, IsLate, PutsFrame}
+use Rattle.warm_c.specs.Calls.{Ending, PutsFrame}
 use Rattle.warm_c.specs.Parts.{HasBits, entry_pages, shards_of}
 
 -- Reading
@@ -27,28 +29,41 @@ request_in (Entries sender horizon entries) = 0
 request_in (Digest sender horizon digests) = 0
 request_in (Want sender horizon request) = request
 
--- what is said of a message: its kind, its horizon, the requested buckets, and of which shards
--- there are entries
+-- what is said of a message: its kind, its horizon, the requested buckets, how many entries there
+-- are, and of which shards
 pub record IsFrameOf (count : ℕ) (message : Message) (what : NodeFrame) : Type 0 where
   pub kind : what.kind ≡ kind_in message
   pub horizon : what.horizon ≡ horizon_in message
   pub buckets : what.buckets ≡ request_in message
+  pub entries : what.entries ≡ length (entries_in message)
   pub shards : HasBits (shards_of count (entry_pages (entries_in message))) what.shards
 
--- The bytes are a frame that speaks of no time later than the limit, and it is said what it is. A
--- refused call writes nothing.
-abbrev pub ReadsFrame : ℕ → ℕ → List ℕ → NodeFrame → NodeFrame → Ending → Type 0
-ReadsFrame shards limit bytes before after (Ok given) = IsShardCount shards
-    × ((message : Message) × Encodes bytes message × SpeaksBy limit message
+-- the message speaks of no time later than the limit, and its horizon is by a limit of its own
+abbrev pub KeepsLimits : ℕ → ℕ → Message → Type 0
+KeepsLimits limit horizon message = SpeaksBy limit message × (horizon_in message ≤ horizon)
+
+-- which limit a message does not keep: its horizon is later than one of the two limits, or else a
+-- stamp of its entries is later than the first limit
+abbrev pub IsLate : ℕ → ℕ → Message → TimeFault → Type 0
+IsLate limit horizon message LateHorizon =
+    (limit < horizon_in message) ⊎ (horizon < horizon_in message)
+IsLate limit horizon message LateStamp = (horizon_in message ≤ limit)
+    × (horizon_in message ≤ horizon) × (StampsBy limit (entries_in message) → ⊥)
+
+-- The bytes are a frame whose message keeps the limits, and it is said what it is. A refused call
+-- writes nothing.
+abbrev pub ReadsFrame : ℕ → ℕ → ℕ → List ℕ → NodeFrame → NodeFrame → Ending → Type 0
+ReadsFrame shards limit horizon bytes before after (Ok given) = IsShardCount shards
+    × ((message : Message) × Encodes bytes message × KeepsLimits limit horizon message
     × IsFrameOf shards message after)
-ReadsFrame shards limit bytes before after (Err BadShards) = (IsShardCount shards → ⊥)
+ReadsFrame shards limit horizon bytes before after (Err BadShards) = (IsShardCount shards → ⊥)
     × (after ≡ before)
-ReadsFrame shards limit bytes before after (Err (Late fault)) = IsShardCount shards
-    × ((message : Message) × Encodes bytes message × IsLate limit message fault)
+ReadsFrame shards limit horizon bytes before after (Err (Late fault)) = IsShardCount shards
+    × ((message : Message) × Encodes bytes message × IsLate limit horizon message fault)
     × (after ≡ before)
-ReadsFrame shards limit bytes before after (Err (Frame fault)) = IsShardCount shards
+ReadsFrame shards limit horizon bytes before after (Err (Frame fault)) = IsShardCount shards
     × GivesReading (Err fault) (read_frame bytes) (reserved_by bytes) × (after ≡ before)
-ReadsFrame shards limit bytes before after (Err why) = ⊥
+ReadsFrame shards limit horizon bytes before after (Err why) = ⊥
 
 -- the buckets whose digests differ from these; none, unless the message is one of digests
 abbrev pub Differ : List (List ℕ) → Message → ℕ → Type 0

@@ -20,7 +20,7 @@ use Rattle.warm_c.specs.Statuses.{code_of, status_of}
 use Rattle.warm_c.specs.Calls.{Ending}
 
 -- A closed handle says that it is closed, and stays so. An open one stays open; what it holds goes
--- so, and the status is that of the ending.
+-- as `goes` says, and the status is that of the ending.
 abbrev pub OnHandle : {A : Type 0} → (A → Ending → A → Type 0) → Option A → ℤ → Option A → Type 0
 OnHandle goes None status new = (status ≡ pos (code_of Closed)) × (new ≡ None)
 OnHandle goes (Some old) status (Some new) = (ending : Ending) × goes old ending new
@@ -41,11 +41,12 @@ pub record OpenRequest : Type 0 where
   pub page_size : ℕ
   pub devices : List WarmDevice
 
+-- the request for a node of this replica: these frames of this page size, over these devices
 abbrev pub open_request : ℕ → ℕ → ℕ → List WarmDevice → OpenRequest
 open_request replica frames page_size devices =
     record { replica = replica; frames = frames; page_size = page_size; devices = devices }
 
--- the devices that it makes
+-- the devices over these file descriptors, with pages of this size
 abbrev pub fd_devices : ℕ → List WarmDevice → List DeviceState
 fd_devices page_size devices = map (λ d. fd_opened d.fd d.pages page_size) devices
 
@@ -86,7 +87,8 @@ opened_handle a = record {
   devices = a.devices;
 }
 
--- why no devices are made: where both hold, `NoDevice`
+-- why no devices are made: there are too many or too large ones, which comes first; or two are of
+-- one file; or an allocation failed
 abbrev pub DevicesRefused : ℕ → List WarmDevice → Refusal → Type 0
 DevicesRefused page_size devices (Node Memory) = Unit {0}
 DevicesRefused page_size devices (Node (Pool NoDevice)) = AreDevices page_size devices → ⊥
@@ -102,8 +104,8 @@ OpenRefused a (NewPool fault) = MayOpen a
     × NewPoolRefused a.frames a.page_size (fd_devices a.page_size a.devices) fault
 OpenRefused a why = IsReplica a.replica × DevicesRefused a.page_size a.devices why
 
--- An open handle says that it is open, and is as it was. A closed one is then open and holds such a
--- node, or stays closed.
+-- An open handle says that it is open, and is as it was. A closed one is then open and holds the
+-- node that was requested, or stays closed.
 abbrev pub Opens : OpenRequest → Option OpenNode → ℤ → Option OpenNode → Type 0
 Opens a (Some old) status new = (status ≡ pos (code_of AlreadyOpen)) × (new ≡ Some old)
 Opens a None status (Some held) = (status ≡ pos 0) × (held ≡ opened_handle a) × MayOpen a

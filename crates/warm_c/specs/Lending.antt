@@ -36,6 +36,8 @@ pub record LendsMutBytes (slot : WarmSlot) (old new : OpenNode) : Type 0 where
   pub dirty : new.node ≡ relent_node old.node slot.index bytes
   pub devices : SameDevices old new
 
+-- The page's bytes are lent to be written to; or the slot does not hold its page, and nothing has
+-- changed.
 abbrev pub LendsMut : WarmSlot → Ptr → Ptr → OpenNode → Ending → OpenNode → Type 0
 LendsMut slot before after old (Ok given) new = LendsMutBytes slot old new
 LendsMut slot before after old (Err why) new = LendRefused slot before after old why × (new ≡ old)

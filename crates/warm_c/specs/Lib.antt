@@ -7,7 +7,6 @@ pub mod Filling
 pub mod FdParts
 pub mod FrameParts
 pub mod Handles
-pub mod Laws
 pub mod Lending
 pub mod Owning
 pub mod PartCalls

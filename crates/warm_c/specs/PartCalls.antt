@@ -43,7 +43,8 @@ ReceivesThose shards shard bytes old (Err (Frame fault)) new =
     GivesReading (Err fault) (read_frame bytes) (reserved_by bytes) × (new ≡ old)
 ReceivesThose shards shard bytes old (Err why) new = ⊥
 
--- the same for one shard of many; numbers that are no shard's are refused
+-- A shard has received its part of a frame of a message, and answers nothing; or it refuses that,
+-- or the bytes are no frame. Numbers that are no shard's are refused.
 abbrev pub ReceivesPart : ℕ → ℕ → List ℕ → OpenNode → Ending → OpenNode → Type 0
 ReceivesPart shards shard bytes old ending new =
     OfPart shards shard ending (new ≡ old) (ReceivesThose shards shard bytes old ending new)
@@ -55,6 +56,7 @@ pub record Gathered : Type 0 where
   pub digests : List (List ℕ)
   pub horizon : ℕ
 
+-- these digests and this horizon, behind the pointers
 abbrev pub gathered : List (List ℕ) → ℕ → Gathered
 gathered digests horizon = record { digests = digests; horizon = horizon }
 
@@ -72,7 +74,8 @@ GivesThose shards shard before after old (Err (Node Memory)) new =
     (after ≡ before) × SameOpen old new
 GivesThose shards shard before after old (Err why) new = ⊥
 
--- the same for one shard of many; numbers that are no shard's are refused
+-- the digests and the horizon of a shard went into those gathered, or memory failed; numbers that
+-- are no shard's are refused
 abbrev pub GivesDigests : ℕ → ℕ → Gathered → Gathered → OpenNode → Ending → OpenNode → Type 0
 GivesDigests shards shard before after old ending new =
     OfPart shards shard ending ((after ≡ before) × (new ≡ old))
@@ -90,14 +93,16 @@ JoinsThose shards shard h old (Ok given) new =
 JoinsThose shards shard h old (Err (Node Memory)) new = SameOpen old new
 JoinsThose shards shard h old (Err why) new = ⊥
 
--- the same for one shard of many, of a peer's history; numbers that are no shard's are refused
+-- a shard has joined what a peer's history says of its pages, or an allocation failed; numbers that
+-- are no shard's are refused
 abbrev pub JoinsPart : ℕ → ℕ → OpenPeer → OpenNode → Ending → OpenNode → Type 0
 JoinsPart shards shard other old ending new =
     OfPart shards shard ending (new ≡ old)
     (JoinsThose shards shard other.peer.history old ending new)
 
 -- A call on two handles. Where one of them is closed, it says so, and both are as they were. Else
--- the first stays open, and what it holds goes so beside what the second holds, which is as it was.
+-- the first stays open, and what it holds goes as `goes` says beside what the second holds, which
+-- is as it was.
 abbrev pub OnTwoHandles : {A B : Type 0} → (B → A → Ending → A → Type 0) → Option A → Option B → ℤ
     → Option A → Option B → Type 0
 OnTwoHandles goes None from status into' from' =

@@ -1,4 +1,4 @@
--- What concerns one shard of many: of a page, of a batch and of entries.
+-- What concerns one shard of many: its number, its entries, and which shards entries are of.
 use Rattle.std.specs.Prelude.{◌≡◌, ◌↔◌, ◌⊎◌, ℕ, ℤ, ◌%◌, ◌<◌, ◌≤◌, List, map, filter, nat_eq}
 use Rattle.std.specs.Prelude.{Contains, Err}
 use Rattle.std.specs.Int.{bit_at}
@@ -10,12 +10,10 @@ use Rattle.warm_history.specs.Carried.{bucket_entries}
 use Rattle.warm_shards.specs.Shards.{IsShardCount, shard_of}
 use Rattle.warm_c.specs.declared.status.Refusal.{Refusal}
 use Rattle.warm_c.specs.declared.status.Refusal.TheVariants.{BadShards, NoShard}
-use Rattle.warm_c.specs.declared.values.WarmReference.{WarmReference}
 use Rattle.warm_c.specs.Calls.{Ending}
 use Rattle.warm_c.specs.Statuses.{status_of}
-use Rattle.warm_c.specs.Values.{reference_of}
 
--- a call without a handle: it ends so, and the status is that of the ending
+-- a call without a handle: it ends as `goes` says, and the status is that of the ending
 abbrev pub WithoutHandle : (Ending → Type 0) → ℤ → Type 0
 WithoutHandle goes status = (ending : Ending) × goes ending × (status ≡ status_of ending)
 
@@ -26,24 +24,19 @@ pub record IsShardNumber (shards shard : ℕ) : Type 0 where
   pub count : IsShardCount shards
   pub below : shard < shards
 
--- why it is not
+-- why `shard` is no shard's number: there cannot be `shards` shards, or it is not below `shards`
 abbrev pub IsNoShardNumber : ℕ → ℕ → Refusal → Type 0
 IsNoShardNumber shards shard why = ((why ≡ BadShards) × (IsShardCount shards → ⊥))
     ⊎ ((why ≡ NoShard) × IsShardCount shards × (shards ≤ shard))
 
--- A call for one shard. Where there cannot be this many shards, or this is none of them, it is
--- refused, and all is the same; else it goes so.
+-- A call for one shard. Where there cannot be `shards` shards, or `shard` is none of them, it is
+-- refused, and all is as `same` says; else it goes as `goes` says.
 abbrev pub OfPart : ℕ → ℕ → Ending → Type 0 → Type 0 → Type 0
 OfPart shards shard ending same goes =
     ((why : Refusal) × (ending ≡ Err why) × IsNoShardNumber shards shard why × same)
     ⊎ (IsShardNumber shards shard × goes)
 
--- Batches
-
--- the references to pages of the shard, in order
-abbrev pub part_of_batch : ℕ → ℕ → List WarmReference → List WarmReference
-part_of_batch shards shard batch =
-    filter (λ r. nat_eq (shard_of shards (reference_of r).page) shard) batch
+-- Entries
 
 -- the shards of pages
 abbrev pub shards_of : ℕ → List PageId → List ℕ

@@ -10,10 +10,11 @@ use Rattle.warm_c.specs.declared.values.WarmPage.{WarmPage}
 use Rattle.warm_c.specs.declared.values.WarmReference.{WarmReference}
 use Rattle.warm_c.specs.declared.values.WarmSlot.{WarmSlot}
 
--- a page as the node knows it, and as C does
+-- a page of C, as the node knows it
 abbrev pub page_of_c : WarmPage → PageId
 page_of_c p = record { dev = p.dev; no = p.no }
 
+-- a page of the node, as C knows it
 abbrev pub c_page : PageId → WarmPage
 c_page p = record { no = p.no; dev = p.dev }
 

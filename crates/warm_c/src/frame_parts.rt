@@ -1,17 +1,17 @@
 //! Frames beside a node: what a frame is, and frames of what was gathered from all shards.
-ghost use Rattle.std.specs.Prelude.{◌≡◌};
+ghost use Rattle.std.specs.Prelude.{◌≡◌, IfErr, OnOk};
 ghost use Rattle.warm_frames.specs.declared.message.Message.TheVariants.{Digest, Want};
 ghost use Rattle.warm_frames.specs.Limits.{entries_in};
 ghost use Rattle.warm_shards.specs.Shards.{IsShardCount};
-ghost use Rattle.warm_c.specs.FrameParts.{Differ, FindsDiffering, IsFrameOf, MakesFrame};
-ghost use Rattle.warm_c.specs.FrameParts.{ReadsFrame};
+ghost use Rattle.warm_c.specs.FrameParts.{Differ, FindsDiffering, IsFrameOf, IsLate, KeepsLimits};
+ghost use Rattle.warm_c.specs.FrameParts.{MakesFrame, ReadsFrame};
 
 use crate::frame_calls::put_frame;
 use crate::shard_parts::shards_of_entries;
 use crate::status::Refusal;
 use std::alloc::Global;
 use warm_digest::differing;
-use warm_frames::{DIGEST_SIZE, DigestTable, Message, check_times, decode};
+use warm_frames::{DIGEST_SIZE, DigestTable, Message, TimeFault, check_times, decode};
 use warm_shards::is_shard_count;
 use warm_stamps::{BUCKETS, BucketSet, ReplicaId};
 
@@ -33,6 +33,8 @@ pub struct NodeFrame {
     pub shards: u64,
     /// Of a request: bit i where bucket i is requested. Else 0.
     pub buckets: u64,
+    /// How many entries there are; 0 of digests and of a request.
+    pub entries: usize,
     /// 1 of entries, 2 of digests, 3 of a request.
     pub kind: u8,
 }
@@ -51,12 +53,14 @@ fn frame_of(message: &Message, shards: usize) -> NodeFrame
             horizon: *horizon,
             shards: shards_of_entries(shards, entries.as_slice()),
             buckets: 0,
+            entries: entries.as_slice().len(),
             kind: 1,
         },
         Message::Digest { horizon, .. } => NodeFrame {
             horizon: *horizon,
             shards: 0,
             buckets: 0,
+            entries: 0,
             kind: 2,
         },
         Message::Want {
@@ -67,32 +71,48 @@ fn frame_of(message: &Message, shards: usize) -> NodeFrame
             horizon: *horizon,
             shards: 0,
             buckets: request.bits(),
+            entries: 0,
             kind: 3,
         },
     }
 }
 
-/// Decodes a frame, checks its times, and writes what it is.
+// Checks that a message speaks of no time later than the limit, and that its horizon is by a limit
+// of its own.
+fn check_limits(message: &Message, limit: u64, horizon: u64) -> Result<(), TimeFault>
+    ensures kept { OnOk result (KeepsLimits limit horizon message.now) }
+    ensures late { IfErr result (IsLate limit horizon message.now) }
+{
+    if horizon < message.horizon() {
+        return Err(TimeFault::LateHorizon);
+    }
+    check_times(message, limit)?;
+    Ok(())
+}
+
+/// Decodes a frame, checks its times, and writes what it is. `limit` bounds all its times, and
+/// `horizon` its horizon alone.
 ///
 /// # Errors
 /// In this order; `what` is unchanged.
 /// - `BadShards`: there cannot be this many shards.
 /// - `Frame`: the bytes are no frame.
-/// - `Late`: the horizon, or else a stamp, is later than the limit.
+/// - `Late`: the horizon is later than one of both limits, or else a stamp is later than `limit`.
 pub fn read_frame(
     alloc: Global,
     shards: usize,
     limit: u64,
+    horizon: u64,
     frame: &[u8],
     what: &mut NodeFrame,
 ) -> Result<(), Refusal>
-    ensures { ReadsFrame shards limit frame.now what.old what.new result }
+    ensures { ReadsFrame shards limit horizon frame.now what.old what.new result }
 {
     if !is_shard_count(shards) {
         return Err(Refusal::BadShards);
     }
     let message = decode(alloc, frame)?;
-    check_times(&message, limit)?;
+    check_limits(&message, limit, horizon)?;
     *what = frame_of(&message, shards);
     Ok(())
 }

@@ -499,11 +499,12 @@ pub extern "C" fn node_next(
 
 /// Writes the frame with the first 1000 entries of a bucket, of those whose latest stamp is not
 /// before the time `since`, and, where `has_after`, whose page is greater than `after`; its length;
-/// whether more of them follow, 1 or 0; and the page of the last one, after which to go on. `last`
-/// is unchanged where there is none.
+/// how many entries it has; whether more of them follow, 1 or 0; and the page of the last one,
+/// after which to go on. Where there is none, `last` is unchanged; so are the buffer and the
+/// length, unless `even_empty`.
 ///
 /// # Errors
-/// The buffer, `more` and `last` are unchanged.
+/// The buffer, `entries`, `more` and `last` are unchanged.
 /// - 68: the bucket's number is not valid.
 /// - 1: an allocation failed.
 /// - 66: the frame does not fit; its length is written.
@@ -515,24 +516,28 @@ pub extern "C" fn node_send_since(
     since: u64,
     has_after: bool,
     after: WarmPage,
+    even_empty: bool,
     frame: &mut [u8],
     len: &mut usize,
+    entries: &mut usize,
     more: &mut u8,
     last: &mut WarmPage,
 ) -> i32
-    ensures called { OnHandle (SendsSince bucket since (page_if has_after after)
-        (send_buffers frame.old len.old more.old last.old)
-        (send_buffers frame.new len.new more.new last.new)) handle.old.held.node result
+    ensures called { OnHandle (SendsSince bucket since (page_if has_after after) even_empty
+        (send_buffers frame.old len.old entries.old more.old last.old)
+        (send_buffers frame.new len.new entries.new more.new last.new)) handle.old.held.node result
         handle.new.held.node }
     ensures closed { handle.old.held.node ≡ None
-        → send_buffers frame.new len.new more.new last.new
-        ≡ send_buffers frame.old len.old more.old last.old }
+        → send_buffers frame.new len.new entries.new more.new last.new
+        ≡ send_buffers frame.old len.old entries.old more.old last.old }
 {
     let Some(mut node) = handle.take(alloc) else {
         return closed();
     };
     let after = page_if(has_after, after);
-    let done = node.send_since(alloc, bucket, since, after, frame, len, more, last);
+    let done = node.send_since(
+        alloc, bucket, since, after, even_empty, frame, len, entries, more, last,
+    );
     put_back(handle, node, done)
 }
 

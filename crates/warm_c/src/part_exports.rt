@@ -44,26 +44,27 @@ pub extern "C" fn node_pin_lend(
     put_back(handle, node, done)
 }
 
-/// Writes what a frame is: its kind, its horizon, of which shards it has entries, and which buckets
-/// it requests.
+/// Writes what a frame is: its kind, its horizon, how many entries it has and of which shards, and
+/// which buckets it requests. `limit` bounds all its times, and `horizon` its horizon alone.
 ///
 /// # Errors
 /// In this order, and 1 at any point where an allocation failed; `what` is unchanged.
 /// - 72: there cannot be this many shards.
 /// - 34 to 42: the bytes are no frame, by the first fault from left to right.
-/// - 70: the horizon is later than the limit.
-/// - 71: a stamp is later than the limit.
+/// - 70: the horizon is later than one of both limits.
+/// - 71: a stamp is later than `limit`.
 #[unsafe(no_mangle)]
 pub extern "C" fn node_read_frame(
     alloc: Global,
     shards: usize,
     limit: u64,
+    horizon: u64,
     frame: &[u8],
     what: &mut NodeFrame,
 ) -> i32
-    ensures { WithoutHandle (ReadsFrame shards limit frame.now what.old what.new) result }
+    ensures { WithoutHandle (ReadsFrame shards limit horizon frame.now what.old what.new) result }
 {
-    status_of(read_frame(alloc, shards, limit, frame, what))
+    status_of(read_frame(alloc, shards, limit, horizon, frame, what))
 }
 
 /// Receives what a frame brings to the shard: its horizon, and the entries of pages of the shard.

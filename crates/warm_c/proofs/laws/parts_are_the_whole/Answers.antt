@@ -1,6 +1,0 @@
-use Rattle.warm_shards.proofs.WholeParts.{history_is_of_parts, message_is_of_parts}
-use Rattle.warm_c.proofs.Batches.{batch_is_of_parts}
-use Rattle.warm_c.proofs.laws.parts_are_the_whole.Goals as goal
-
-pub returns : goal.returns
-returns c = record { batch = batch_is_of_parts; message = message_is_of_parts; history = history_is_of_parts }
