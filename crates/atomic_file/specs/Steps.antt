@@ -13,7 +13,7 @@ IsOfMaking Sync = ⊥
 IsOfMaking Rename = ⊥
 IsOfMaking SyncFolder = ⊥
 
--- a step of putting it in place
+-- a step of putting a draft in place of the file
 abbrev pub IsOfPlacing : FileStep → Type 0
 IsOfPlacing Target = ⊥
 IsOfPlacing Folder = ⊥

@@ -9,6 +9,7 @@ pub record DeviceCalls : Type 0 where
   pub writes : ℕ
   pub flushes : ℕ
 
+-- no call was made
 abbrev pub no_calls : DeviceCalls
 no_calls = record { reads = 0; writes = 0; flushes = 0 }
 

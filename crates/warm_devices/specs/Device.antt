@@ -61,6 +61,7 @@ pub record ChangesPage (page : ℕ) (old new : List (List ℕ)) : Type 0 where
   pub count : length new ≡ length old
   pub others : (k : ℕ) → k ≢ page → page_at new k ≡ page_at old k
 
+-- no page of the device but this one has changed
 abbrev pub ChangesOnly : ℕ → DeviceState → DeviceState → Type 0
 ChangesOnly page old new = ChangesPage page old.contents new.contents
 

@@ -13,7 +13,7 @@ device_fault_code Read = 1
 device_fault_code Write = 2
 device_fault_code Flush = 3
 
--- its name
+-- the name of each fault of a device
 abbrev pub device_fault_name : DeviceFault → List ℕ
 device_fault_name Read = codes "Read"
 device_fault_name Write = codes "Write"
@@ -24,7 +24,7 @@ abbrev pub open_fault_code : OpenFault → ℕ
 open_fault_code Memory = 1
 open_fault_code Open = 2
 
--- its name
+-- the name of each reason for which a file is not opened
 abbrev pub open_fault_name : OpenFault → List ℕ
 open_fault_name Memory = codes "Memory"
 open_fault_name Open = codes "Open"

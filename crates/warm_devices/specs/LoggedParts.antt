@@ -8,10 +8,11 @@ use Rattle.warm_devices.specs.declared.fault.DeviceFault.TheVariants.{Write, Flu
 use Rattle.warm_devices.specs.declared.log.NotYet.{NotYet}
 use Rattle.warm_devices.specs.declared.logged.Logged.{Logged}
 
--- the device to which calls are forwarded, and the log that is asked before each write
+-- the device to which calls are forwarded
 abbrev pub device_of : {D L : Type 0} → Logged D L → D
 device_of f = f.device
 
+-- the log that is asked before each write
 abbrev pub log_of : {D L : Type 0} → Logged D L → L
 log_of f = f.log
 

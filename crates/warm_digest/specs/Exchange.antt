@@ -37,6 +37,7 @@ pub record IsReference (r : Reference) : Type 0 where
   pub page : IsPage r.page
   pub stamp : IsStamp r.stamp
 
+-- valid references
 abbrev pub AreReferences : List Reference → Type 0
 AreReferences rs = AllByRecursion IsReference rs
 

@@ -17,7 +17,7 @@ dump_fault_code MoreFollows = 16
 dump_fault_code ReadFault = 17
 dump_fault_code WriteFault = 18
 
--- its name
+-- the name of each fault of a dump
 abbrev pub dump_fault_name : DumpFault → List ℕ
 dump_fault_name (Frame fault) = fault_name fault
 dump_fault_name CutShort = codes "CutShort"

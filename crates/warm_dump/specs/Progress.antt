@@ -26,7 +26,7 @@ abbrev pub AreAt : Option ℕ → List Message → Type 0
 AreAt None messages = messages ≡ []
 AreAt (Some horizon) messages = (0 < length messages) × AreEntriesAt horizon messages
 
--- the references that they bring
+-- the references that messages with one horizon bring; none where no message came
 abbrev pub references_brought : Option ℕ → List Message → ReferenceSet
 references_brought None messages = set_of_list []
 references_brought (Some horizon) messages = references_in horizon messages

@@ -33,6 +33,7 @@ brought (Entries sender own es) = es
 brought (Digest sender own digests) = []
 brought (Want sender own request) = []
 
+-- the entries that messages bring, message by message
 abbrev pub entries_brought : List Message → List Entry
 entries_brought messages = flat_map brought messages
 
@@ -41,7 +42,7 @@ abbrev pub references_in : ℕ → List Message → ReferenceSet
 references_in horizon messages =
     record { horizon = horizon; given = references_of_entries (entries_brought messages) }
 
--- the history of messages at a horizon: that of all these references
+-- the history, at a horizon, of all references that messages bring
 abbrev pub history_of_messages : ℕ → List Message → HistoryView
 history_of_messages horizon messages = history (references_in horizon messages)
 

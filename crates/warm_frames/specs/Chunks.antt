@@ -13,6 +13,7 @@ chunks_of size zero xs = []
 chunks_of size (suc n) [] = []
 chunks_of size (suc n) (x ∷ xs) = take size (x ∷ xs) ∷ chunks_of size n (drop size (x ∷ xs))
 
+-- the whole list in chunks of `size` items, of which the last may be shorter
 abbrev pub chunks : {A : Type 0} → ℕ → List A → List (List A)
 chunks size xs = chunks_of size (length xs) xs
 

@@ -56,5 +56,6 @@ entries_bytes_in format es = flat_map (entry_bytes_in format) es
 abbrev pub entry_bytes : Entry → List ℕ
 entry_bytes e = entry_bytes_in Wide e
 
+-- the bytes of entries one after the other, as they are written and digested
 abbrev pub entries_bytes : List Entry → List ℕ
 entries_bytes es = entries_bytes_in Wide es

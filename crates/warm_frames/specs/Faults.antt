@@ -23,7 +23,7 @@ fault_code BadStamp = 9
 fault_code BadOrder = 10
 fault_code Failed = 11
 
--- its name
+-- the name of each reason for which bytes are no frame
 abbrev pub fault_name : FrameFault → List ℕ
 fault_name Memory = codes "Memory"
 fault_name Truncated = codes "Truncated"
@@ -37,10 +37,12 @@ fault_name BadStamp = codes "BadStamp"
 fault_name BadOrder = codes "BadOrder"
 fault_name Failed = codes "Failed"
 
+-- the number of each reason for which the times of a message are too late
 abbrev pub time_fault_code : TimeFault → ℕ
 time_fault_code LateHorizon = 1
 time_fault_code LateStamp = 2
 
+-- the name of each reason for which the times of a message are too late
 abbrev pub time_fault_name : TimeFault → List ℕ
 time_fault_name LateHorizon = codes "LateHorizon"
 time_fault_name LateStamp = codes "LateStamp"

@@ -22,8 +22,8 @@ abbrev pub InPieces : Type 0
 InPieces = (calls : List Feeding) (rest : List ℕ) → Feedings (Inside []) calls (Inside rest)
     → Splits (taken_in calls) (messages_given calls) rest
 
--- Where it then finds a fault in a piece, the stream up to the piece's end encodes the messages
--- returned, and is then bytes that show the fault.
+-- Where a decoder finds a fault in a piece, the stream up to the piece's end encodes the messages
+-- that it returned, and is then bytes that show the fault.
 abbrev pub FaultInPieces : Type 0
 FaultInPieces = (calls : List Feeding) (begun piece : List ℕ) (fault : FrameFault)
     → Feedings (Inside []) calls (Inside begun) → Breaks begun piece fault Broken
@@ -34,7 +34,7 @@ abbrev pub OneReading : Type 0
 OneReading = (stream : List ℕ) (fs gs : List Message) (r q : List ℕ) → Splits stream fs r
     → Splits stream gs q → (fs ≡ gs) × (r ≡ q)
 
--- the same for a fault: there is one, after the same messages
+-- A stream that is faulty has one fault, after one list of messages, however it is cut into pieces.
 abbrev pub OneFault : Type 0
 OneFault = (stream : List ℕ) (fs gs : List Message) (e d : FrameFault) → Fails stream fs e
     → Fails stream gs d → (fs ≡ gs) × (e ≡ d)

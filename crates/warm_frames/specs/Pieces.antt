@@ -92,6 +92,7 @@ abbrev pub bytes_taken : List ℕ → Result Fed FrameFault → List ℕ
 bytes_taken piece (Ok fed) = take fed.taken piece
 bytes_taken piece (Err fault) = []
 
+-- the bytes that were consumed of all these pieces
 abbrev pub taken_in : List Feeding → List ℕ
 taken_in = flat_map (λ c. bytes_taken c.piece c.answer)
 
@@ -100,6 +101,7 @@ abbrev pub message_given : Result Fed FrameFault → List Message
 message_given (Ok fed) = option_to_list fed.message
 message_given (Err fault) = []
 
+-- the messages that were returned for all these pieces
 abbrev pub messages_given : List Feeding → List Message
 messages_given = flat_map (λ c. message_given c.answer)
 

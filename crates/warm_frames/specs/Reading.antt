@@ -44,15 +44,17 @@ IsReading view (Ok x) read = read ≡ Ok (view x)
 IsReading view (Err e) read = read ≡ Err e
 
 -- A field is a value and the bytes after it. Where too few bytes are left, the fault is the given
--- one.
+-- one. This field is of n bytes.
 abbrev pub front_at : ℕ → FrameFault → List ℕ → Result (List ℕ × List ℕ) FrameFault
 front_at n short bytes =
     if nat_lt (length bytes) n then Err short else Ok (take n bytes, drop n bytes)
 
+-- a number of this width, its highest byte first
 abbrev pub number_at : Width → FrameFault → List ℕ → Result (ℕ × List ℕ) FrameFault
 number_at w short bytes = if nat_lt (length bytes) (byte_len w) then Err short
     else Ok (from_be_bytes w (take (byte_len w) bytes), drop (byte_len w) bytes)
 
+-- a single byte
 abbrev pub byte_at : FrameFault → List ℕ → Result (ℕ × List ℕ) FrameFault
 byte_at short [] = Err short
 byte_at short (b ∷ bytes) = Ok (b, bytes)
@@ -64,9 +66,11 @@ want false fault = Err fault
 
 -- ---- the header
 
+-- whether this is the number of a replica
 abbrev pub is_replica : ℕ → Bool
 is_replica n = nat_lt 0 n && nat_le n MAX_REPLICAS
 
+-- the kind of message of this number
 abbrev pub kind_of : ℕ → Result Kind FrameFault
 kind_of zero = Err BadKind
 kind_of (suc zero) = Ok kinds.Entries
@@ -218,6 +222,7 @@ all_entries format count bytes = do
   ended ← want (length entries.1 == 0) BadLength
   Ok entries.0
 
+-- a body of entries: their number, and as many of them, which are all that is left
 unfoldable pub read_entries : Format → List ℕ → Result (List Entry) FrameFault
 read_entries format body = do
   count ← count_at body
@@ -230,6 +235,7 @@ unfoldable pub read_digests : List ℕ → Result (List (List ℕ)) FrameFault
 read_digests body =
     if length body == table_size then Ok (first_chunks DIGEST_SIZE BUCKETS body) else Err BadLength
 
+-- the message of this kind, sender and horizon that a body has
 abbrev pub message_by : Kind → Format → ℕ → ℕ → List ℕ → Result Message FrameFault
 message_by kinds.Entries format sender horizon body = do
   entries ← read_entries format body
@@ -258,6 +264,7 @@ entries_reserved body = do
   count ← count_at body
   Ok count.0
 
+-- the number of entries for which capacity is reserved: 0, unless the body is one of entries
 abbrev pub reserved_in : Kind → List ℕ → Result ℕ FrameFault
 reserved_in kinds.Entries body = entries_reserved body
 reserved_in kinds.Digest body = Ok 0

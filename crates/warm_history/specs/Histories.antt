@@ -87,9 +87,11 @@ StandsFor h S = h ≡ history S
 abbrev pub TakesIn : HistoryView → ReferenceSet → HistoryView → Type 0
 TakesIn old rs new = (S : ReferenceSet) → StandsFor old S → StandsFor new (S ∪ rs)
 
--- the join of two histories, and the order whose least upper bound it is
+-- the join of two histories: the history of all references that they hold
 abbrev pub join : HistoryView → HistoryView → HistoryView
 join h g = history (references_of h ∪ references_of g)
 
+-- the order whose least upper bound is the join: joining the first history to the second adds
+-- nothing
 abbrev pub IsBelow : HistoryView → HistoryView → Type 0
 IsBelow h g = join h g ≡ g

@@ -10,18 +10,19 @@ use Rattle.warm_history.specs.ReferenceSets.{with_horizon}
 abbrev pub raised : ℕ → HistoryView → HistoryView
 raised horizon h = history (with_horizon horizon (references_of h))
 
--- the entries that a bucket would have then
+-- the entries that a bucket would have if the history were raised to the horizon
 abbrev pub bucket_at_horizon : ℕ → ℕ → HistoryView → List Entry
 bucket_at_horizon horizon bucket h = bucket_entries bucket (entries_of (raised horizon h))
 
--- the entries of the bucket would change
+-- the entries of the bucket would change if the history were raised to the horizon
 abbrev pub LosesIn : ℕ → ℕ → HistoryView → Type 0
 LosesIn horizon bucket h = ChangesIn bucket (entries_of h) (entries_of (raised horizon h))
 
--- the entries of the bucket would stay the same
+-- the entries of the bucket would stay the same if the history were raised to the horizon
 abbrev pub KeepsIn : ℕ → ℕ → HistoryView → Type 0
 KeepsIn horizon bucket h = SameInBucket bucket (entries_of h) (entries_of (raised horizon h))
 
--- a bucket is in the set exactly where its entries would change
+-- a bucket is in the set exactly where its entries would change if the history were raised to the
+-- horizon
 abbrev pub MarksLosing : ℕ → HistoryView → ℕ → Type 0
 MarksLosing horizon h buckets = MarksChanged (entries_of h) (entries_of (raised horizon h)) buckets

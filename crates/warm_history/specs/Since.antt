@@ -36,7 +36,8 @@ carried_since S bucket since after limit = filter_references
     (λ r. list_any (λ p. is_eq (page_cmp p r.page)) (take limit (pages_since S bucket since after)))
     S
 
--- these are the entries of these references, whichever references the history stands for
+-- es are the entries of the references that `carried_since` gives, whichever references the history
+-- stands for
 abbrev pub AreCarriedSince : HistoryView → ℕ → ℕ → Option PageId → ℕ → List Entry → Type 0
 AreCarriedSince h bucket since after limit es = (S : ReferenceSet) → StandsFor h S
     → es ≡ entries_of (history (carried_since S bucket since after limit))
@@ -47,7 +48,8 @@ AreCarriedSince h bucket since after limit es = (S : ReferenceSet) → StandsFor
 abbrev pub recent_entries : ℕ → List Entry → List Entry
 recent_entries since es = filter (λ e. is_recent since e.hist) es
 
--- of these, those of a bucket whose page is greater than the given one, if one is given
+-- the entries of a bucket whose latest stamp is not before the time, and whose page is greater than
+-- the given one, if one is given
 abbrev pub entries_since : ℕ → ℕ → Option PageId → List Entry → List Entry
 entries_since bucket since after es = recent_entries since (later_of_bucket bucket after es)
 

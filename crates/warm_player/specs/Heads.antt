@@ -11,10 +11,11 @@ use Rattle.warm_player.specs.Fields.{◌>>=◌, is_byte_in, number_up_to}
 abbrev pub is_digit : ℕ → Bool
 is_digit c = is_byte_in 48 57 c
 
--- the digits at the head of a text, and what follows them
+-- the digits at the head of a text
 abbrev pub leading_digits : List ℕ → List ℕ
 leading_digits text = take_while is_digit text
 
+-- what follows the digits at the head of a text
 abbrev pub after_digits : List ℕ → List ℕ
 after_digits text = drop (prefix_len is_digit text) text
 

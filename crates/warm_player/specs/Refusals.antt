@@ -13,7 +13,7 @@ StopsAnswers Memory = Unit {0}
 StopsAnswers WriteFault = Unit {0}
 StopsAnswers why = ⊥
 
--- what stops a running play: the same, or the reader
+-- what stops a running play: an allocation failure, the writer, or the reader
 abbrev pub StopsPlay : PlayFault → Type 0
 StopsPlay ReadFault = Unit {0}
 StopsPlay why = StopsAnswers why

@@ -16,7 +16,7 @@ pub record SessionView : Type 0 where
   pub number : ℕ
   pub held : List ℕ
 
--- how it follows from a session
+-- the view of a session: its world, the number of the current line, and the bytes held of it
 abbrev pub session : {D : Type 0} → Session D → SessionView
 session s = record { world = world_view s.world; number = s.number; held = s.line.items }
 

@@ -17,10 +17,12 @@ seeded seed = started 64 multiplier_64 seed (increment_of 64 1)
 abbrev pub Draw : Type 0 → Type 0
 Draw A = Lcg → A × Lcg
 
+-- a value that is not drawn: the generator is unchanged
 abbrev pub always : {A : Type 0} → A → Draw A
 always a = λ g. (a, g)
 
 infixl 10 ◌>>=◌
+-- the second draw goes on with what the first drew
 abbrev pub ◌>>=◌ : {A B : Type 0} → Draw A → (A → Draw B) → Draw B
 first >>= next = λ g. next (first g).0 (first g).1
 
@@ -56,6 +58,7 @@ fields replicas workers time sends kind =
 abbrev pub line : ℕ → ℕ → ℕ → ℕ → Draw DrawnLine
 line replicas workers time sends = below 8 >>= fields replicas workers time sends
 
+-- whether the line sends a message
 abbrev pub is_send : DrawnLine → Bool
 is_send (Send i b) = true
 is_send _ = false
@@ -70,6 +73,7 @@ random_lines replicas workers (suc n) =
 
 -- ---- text
 
+-- the line as a line of a schedule
 abbrev pub line_text : DrawnLine → List ℕ
 line_text (Ref i w p time) = codes "ref " ++ decimal i ++ codes " " ++ decimal w ++ codes " 0:"
     ++ decimal p ++ codes " " ++ decimal time ++ codes "\n"

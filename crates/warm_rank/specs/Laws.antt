@@ -30,6 +30,7 @@ pub record OrdersPages (S : ReferenceSet) : Type 0 where
   pub transitive : (p q r : PageId) → IsBefore S p q → IsBefore S q r → IsBefore S p r
   pub irreflexive : (p : PageId) → IsBefore S p p → ⊥
 
+-- whatever the references are, eviction orders pages: totally, transitively and irreflexively
 abbrev pub EvictionIsOrder : Type 0
 EvictionIsOrder = (S : ReferenceSet) → OrdersPages S
 

@@ -30,7 +30,8 @@ hottest_keys S n = greatest_keys (entry_keys (history S)) n
 abbrev pub AreHottest : HistoryView → ℕ → List RankKey → Type 0
 AreHottest h n keys = (S : ReferenceSet) → StandsFor h S → keys ≡ hottest_keys S n
 
--- the same, whichever references have a history with these keys, in any order
+-- the keys of the n hottest pages, whichever references have a history with the given keys, in any
+-- order
 abbrev pub AreHottestOfKeys : List RankKey → ℕ → List RankKey → Type 0
 AreHottestOfKeys given n keys = (S : ReferenceSet) → IsPermutation (entry_keys (history S)) given
     → keys ≡ hottest_keys S n

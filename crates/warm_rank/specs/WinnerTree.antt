@@ -24,7 +24,8 @@ pub record HasLeaves (n : ℕ) (nodes : List ℕ) : Type 0 where
   pub leaves : (slot : ℕ) → slot < n → slice_index nodes (n + slot) ≡ slot
   pub in_range : (j : ℕ) → j < 2 * n → slice_index nodes j < n
 
--- and every match is played
+-- a tree of matches over the slots' keys: two nodes per slot, with the slots last, and each match
+-- played
 pub record IsTree {K : Type 0} (cmp : K → K → Ordering) (keys : List (Option K))
     (nodes : List ℕ) : Type 0 where
   pub shape : HasLeaves (length keys) nodes

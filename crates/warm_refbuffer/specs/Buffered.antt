@@ -30,11 +30,12 @@ pub record IsBuffer (waiting capacity allocated : ℕ) : Type 0 where
   pub within : waiting ≤ capacity
   pub is_allocated : capacity ≤ allocated
 
--- the number and the name of each refusal
+-- the number of each refusal
 abbrev pub code_of : BufferFault → ℕ
 code_of Memory = 1
 code_of BadCapacity = 2
 
+-- the name of each refusal
 abbrev pub name_of : BufferFault → List ℕ
 name_of Memory = codes "Memory"
 name_of BadCapacity = codes "BadCapacity"

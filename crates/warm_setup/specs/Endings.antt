@@ -25,7 +25,7 @@ abbrev pub status_of_command : CmdFault → ℕ
 status_of_command command.Memory = 1
 status_of_command (command.Refused error) = status_of_kind (kind_of error)
 
--- the exit status of a run that ended so
+-- the exit status of a run with this result
 abbrev pub exit_status : Result (Unit {0}) ProgramFault → ℕ
 exit_status (Ok _) = 0
 exit_status (Err (Command fault)) = status_of_command fault
@@ -37,7 +37,7 @@ exit_status (Err (Play fault)) = 1
 abbrev pub line_end : List ℕ
 line_end = 10 ∷ []
 
--- clap has a text of its own
+-- what a refused command line writes to standard error, besides clap's own text
 abbrev pub line_of_command : CmdFault → List ℕ
 line_of_command command.Memory = codes "warmplay: " ++ codes "Memory" ++ line_end
 line_of_command (command.Refused error) = []
@@ -52,7 +52,7 @@ abbrev pub number_named : PlayFault → Option ℕ
 number_named (BadLine number) = Some number
 number_named _ = None
 
--- what such a run writes to standard error, besides clap's own text
+-- what a run with this result writes to standard error, besides clap's own text
 abbrev pub error_line : Result (Unit {0}) ProgramFault → List ℕ
 error_line (Ok _) = []
 error_line (Err (Command fault)) = line_of_command fault

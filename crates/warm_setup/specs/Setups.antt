@@ -30,7 +30,7 @@ abbrev pub ◌>>=◌ : {A B : Type 0} → Result A SetupFault → (A → Result 
 abbrev pub within : ℕ → ℤ → Result ℕ SetupFault
 within limit z = if int_le (pos 1) z && int_le z (pos limit) then Ok (nat_abs z) else Err BadValue
 
--- a value that is such an integer
+-- the value as an integer from 1 to a limit
 unfoldable pub number_to : ℕ → Data → Result ℕ SetupFault
 number_to limit found = ok_or (as_integer found) BadKey >>= within limit
 
@@ -39,7 +39,7 @@ abbrev pub at_least_a_byte : List ℕ → Result (List ℕ) SetupFault
 at_least_a_byte [] = Err BadValue
 at_least_a_byte (byte ∷ bytes) = Ok (byte ∷ bytes)
 
--- a value that is such a text
+-- the value as a text of at least one byte
 unfoldable pub text_in : Data → Result (List ℕ) SetupFault
 text_in found = ok_or (as_str found) BadKey >>= at_least_a_byte
 

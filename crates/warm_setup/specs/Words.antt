@@ -63,11 +63,11 @@ wants_command top = record top { subcommand_required = true }
 abbrev pub with_play : App
 with_play = with_subcommand (on_top wants_command (new_app (codes "warmplay"))) play.top
 
--- and with `random`
+-- the root command with `play` and `random`
 abbrev pub with_random : App
 with_random = with_subcommand with_play random.top
 
--- and with `threads`: the root command of the program
+-- the root command of the program: with `play`, `random` and `threads`
 abbrev pub warmplay : App
 warmplay = with_subcommand with_random threads.top
 

@@ -32,11 +32,12 @@ abbrev pub page_of_narrow : List ℕ → PageId
 page_of_narrow bytes =
     record { dev = from_be_bytes w16 (take 2 bytes); no = from_be_bytes w32 (drop 2 bytes) }
 
--- the valid stamps and pages
+-- the valid stamps
 pub record IsStamp (s : Stamp) : Type 0 where
   pub time : s.time < 2 ^ 64
   pub replica : IsReplica s.replica
 
+-- the valid pages
 pub record IsPage (p : PageId) : Type 0 where
   pub dev : p.dev < 2 ^ 16
   pub no : p.no < 2 ^ 64

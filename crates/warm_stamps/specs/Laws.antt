@@ -11,11 +11,14 @@ pub record OrdersTotally {A : Type 0} (cmp : A → A → Ordering) : Type 0 wher
   pub turns : (x y : A) → cmp y x ≡ ordering_reverse (cmp x y)
   pub transitive : (x y z : A) → cmp x y ≡ Less → cmp y z ≡ Less → cmp x z ≡ Less
 
+-- the order of stamps is total
 abbrev pub StampOrderIsTotal : Type 0
 StampOrderIsTotal = OrdersTotally stamp_cmp
 
+-- the order of pages is total
 abbrev pub PageOrderIsTotal : Type 0
 PageOrderIsTotal = OrdersTotally page_cmp
 
+-- the order of references is total
 abbrev pub ReferenceOrderIsTotal : Type 0
 ReferenceOrderIsTotal = OrdersTotally reference_cmp

@@ -26,7 +26,8 @@ abbrev pub bucket_records : ℕ → ReferenceSet → ℕ → List MessageRecord
 bucket_records i S bucket =
     records_of i S bucket None (chunks MAX_ENTRIES (bucket_entries bucket (entries_of (history S))))
 
--- the same, for the buckets whose bit is set, one after the other
+-- what a replica that S reached sends of the requested buckets, one after the other, in messages
+-- that are all full but the last of each bucket
 abbrev pub requested_records : ℕ → ReferenceSet → ℕ → List MessageRecord
 requested_records i S request = flat_map (bucket_records i S) (requested_buckets request)
 

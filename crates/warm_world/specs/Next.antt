@@ -53,13 +53,13 @@ replica_of (Restart i) = i
 replica_of (Horizon i time) = i
 replica_of (Show i) = i
 
--- the worker that it names
+-- the worker that an event names, if it names one
 abbrev pub worker_of : Event → Option ℕ
 worker_of (Refer i w page time) = Some w
 worker_of (Flush i w) = Some w
 worker_of _ = None
 
--- the message that it names
+-- the message that an event names, if it names one
 abbrev pub message_of : Event → Option ℕ
 message_of (Deliver j k) = Some k
 message_of _ = None
@@ -69,16 +69,19 @@ pub record Shape : Type 0 where
   pub workers : List ℕ
   pub messages : ℕ
 
+-- the number of workers of each replica of a model state, and the number of messages sent
 abbrev pub shape : ModelState → Shape
 shape m = record { workers = map (λ r. length r.pending) m.replicas; messages = length m.records }
 
--- the replica, worker or message that an event names exists
+-- the replica that an event names exists
 abbrev pub HasReplica : Shape → Event → Type 0
 HasReplica s event = IsNumber (replica_of event) (length s.workers)
 
+-- the replica that an event names has a worker of this number
 abbrev pub IsWorker : Shape → Event → ℕ → Type 0
 IsWorker s event w = IsNumber w (slice_index_or s.workers (index_of_number (replica_of event)) 0)
 
+-- a message of this number was sent
 abbrev pub IsMessage : Shape → ℕ → Type 0
 IsMessage s k = IsNumber k s.messages
 

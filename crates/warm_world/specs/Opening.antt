@@ -56,10 +56,12 @@ pub record FailsOf (old : WorldView) (new : WorldView) : Type 0 where
             (with_pool (slice_index_or old.replicas replica other) pool);
       }
 
+-- the end of a world is refused because a write or a flush failed
 abbrev pub FinishFails : WorldView → NodeFault → WorldView → Type 0
 FinishFails old why new = (why ≡ Pool Fault) × FailsOf old new
 
--- the same, for the replica at this index
+-- a write or a flush failed: of the pool of the replica at this index a count of failures has
+-- increased, and nothing else has changed
 abbrev pub FailsAtIndex : ℕ → WorldView → WorldView → Type 0
 FailsAtIndex k old new = (fails : FailsOf old new) × (fails.replica ≡ k)
 

@@ -17,7 +17,7 @@ abbrev pub IsNotRefused : Answer → Type 0
 IsNotRefused (Refused fault) = ⊥
 IsNotRefused answer = Unit {0}
 
--- the events lead there one after another, and none of them is refused
+-- the events lead from the old state to the new one, one after another, and none of them is refused
 pub record NoneRefused (old : ModelState) (events : List Event) (new : ModelState) : Type 0 where
   pub answers : List Answer
   pub run : Run old events answers new

@@ -137,7 +137,8 @@ pub record VictimsAreRight (old : ModelState) (event : Event) (answer : Answer)
   pub left : (i : ℕ) (page : PageId) → MayLoad i event → IsEvictedFrom i old new page
       → IsRightVictim i old page
 
--- the same, for each event of a run
+-- at each event of a run, the page that Victim names, and each page that is evicted for one that is
+-- pinned or warmed up, is an unpinned resident page of greatest backward 2-distance
 abbrev pub EachVictim : (old : ModelState) (events : List Event) (answers : List Answer)
     (new : ModelState) → Run old events answers new → Type 0
 EachVictim old [] [] new run = Unit {0}

@@ -78,16 +78,18 @@ add_records m rs = record m { records = m.records ++ rs }
 abbrev pub pending : ReplicaState → ℕ → List Reference
 pending r k = slice_index_or r.pending k []
 
--- the replica after that buffer was flushed: its references have reached the replica
+-- the replica after the buffer of the worker at index k was flushed: its references have reached
+-- the replica
 abbrev pub flushed : ℕ → ReplicaState → ReplicaState
 flushed k r =
     record r { reach = r.reach ∪ set_of_list (pending r k); pending = slice_set r.pending k [] }
 
--- the replica after a reference was appended to that buffer
+-- the replica after a reference was appended to the buffer of the worker at index k
 abbrev pub put_last : ℕ → Reference → ReplicaState → ReplicaState
 put_last k x r = record r { pending = slice_set r.pending k (pending r k ++ x ∷ []) }
 
--- the same, where a full buffer is flushed first
+-- the replica after a reference was appended to the buffer of the worker at index k; a full buffer
+-- is flushed first
 abbrev pub referred : ℕ → ℕ → Reference → ReplicaState → ReplicaState
 referred capacity k x r =
     put_last k x (if nat_le capacity (length (pending r k)) then flushed k r else r)

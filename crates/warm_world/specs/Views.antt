@@ -20,9 +20,11 @@ pub record WorldView : Type 0 where
 
 -- How it follows from a world.
 
+-- what contracts see of a replica
 abbrev pub replica_view : {D : Type 0} → Replica D → ReplicaView
 replica_view r = record { node = node_view r.node; buffers = r.buffers.items }
 
+-- what contracts see of a world
 abbrev pub world_view : {D : Type 0} → World D → WorldView
 world_view w = record {
   replicas = map replica_view w.replicas.items;
@@ -38,10 +40,11 @@ abbrev pub AreSettledBefore : ℕ → List NodeState → Type 0
 AreSettledBefore k nodes = (j : ℕ) (other : NodeState) → j < k
     → IsSettled (slice_index_or nodes j other).pool
 
+-- of the replicas of a world before an index no frame is dirty, and no device is unflushed
 abbrev pub IsSettledBefore : {D : Type 0} → ℕ → World D → Type 0
 IsSettledBefore k w = AreSettledBefore k (map (λ r. r.node) w.replicas.items)
 
--- the same, for all nodes of the world
+-- of all nodes of the world no frame is dirty, and no device is unflushed
 abbrev pub IsAtRest : {D : Type 0} → World D → Type 0
 IsAtRest w = IsSettledBefore (length w.replicas.items) w
 
@@ -49,11 +52,12 @@ IsAtRest w = IsSettledBefore (length w.replicas.items) w
 abbrev pub node_at : {D : Type 0} → World D → ℕ → NodeState → NodeState
 node_at w j other = slice_index_or (map (λ r. r.node) w.replicas.items) j other
 
--- the nodes from this index on are unchanged; all nodes but that at this index are unchanged
+-- the nodes from this index on are unchanged
 abbrev pub AreSameFrom : {D : Type 0} → ℕ → World D → World D → Type 0
 AreSameFrom k old new = (j : ℕ) (other : NodeState) → k ≤ j
     → node_at new j other ≡ node_at old j other
 
+-- all nodes but that at this index are unchanged
 abbrev pub AreSameBut : {D : Type 0} → ℕ → World D → World D → Type 0
 AreSameBut k old new = (j : ℕ) (other : NodeState) → j ≢ k
     → node_at new j other ≡ node_at old j other

@@ -25,7 +25,7 @@ ArePools nodes = (k : ℕ) (other : NodeState) → k < length nodes
 abbrev pub PoolsDiffer : ModelState → Type 0
 PoolsDiffer m = (i : ℕ) → PagesDiffer (pool_of m i)
 
--- this holds in each state that the world stands for
+-- in each state that the world stands for, no page is in two frames of one replica's pool
 abbrev pub ShowsPoolsDiffer : WorldView → Type 0
 ShowsPoolsDiffer w = (m : ModelState) → WorldStands w m → PoolsDiffer m
 

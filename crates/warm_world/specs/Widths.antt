@@ -26,16 +26,18 @@ pub record ReachFits (S : ReferenceSet) : Type 0 where
   pub horizon : S.horizon < 2 ^ 64
   pub references : AreReferences (references S)
 
--- so are all references that reached a replica, and all pending ones
+-- all numbers of a replica are within their widths: the horizon and references that reached it, and
+-- its pending references
 pub record ReplicaFits (r : ReplicaState) : Type 0 where
   pub reached : ReachFits r.reach
   pub waiting : AllByRecursion AreReferences r.pending
 
--- and all that a stored message brings
+-- all numbers that a stored message brings are within their widths
 abbrev pub RecordFits : MessageRecord → Type 0
 RecordFits kept = ReachFits (refs_of kept)
 
--- and there are at most MAX_REPLICAS replicas
+-- all numbers of replicas and stored messages are within their widths, and there are at most
+-- MAX_REPLICAS replicas
 pub record ModelFits (m : ModelState) : Type 0 where
   pub few : length m.replicas ≤ MAX_REPLICAS
   pub replicas : AllByRecursion ReplicaFits m.replicas
@@ -51,6 +53,6 @@ abbrev pub RunsFit : Type 0
 RunsFit = (old : ModelState) (events : List Event) (answers : List Answer) (new : ModelState)
     → ModelFits old → AllByRecursion EventFits events → Run old events answers new → ModelFits new
 
--- and the entries of each history are valid
+-- where a model state's numbers are within their widths, so are those of each replica's history
 abbrev pub HistoriesFit : Type 0
 HistoriesFit = (m : ModelState) (i : ℕ) → ModelFits m → Fits (history (reach_of m i))

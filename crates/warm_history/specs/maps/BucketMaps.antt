@@ -83,16 +83,19 @@ RecordsAt cmp old page key more note new = (h : PageHist)
     × (Some h ≡ latest_of (hist_stamps more ++ known_stamps (lookup (is_at (cmp key)) old)))
     × (new ≡ insert_entry cmp old key h) × IsNoteAt cmp note page key h old new
 
--- the same of a change, where this was known before; any page may have the key
+-- new are the pairs old, with the two latest of the stamps there and those of `more` at a key; the
+-- change and `before` say what was known there; any page may have the key
 abbrev pub ChangesAt : {K : Type 0} → (K → K → Ordering) → List (K × PageHist) → K → PageHist
     → Option Change → PageHist → List (K × PageHist) → Type 0
 ChangesAt cmp old key more change before new = (page : PageId)
     → RecordsAt cmp old page key more (noted page change before) new
 
--- the same for keys that are numbers
+-- the note gives the old value at a key that is a number, where that has changed
 abbrev pub IsUndoNote : Option UndoNote → PageId → ℕ → PageHist → MapPairs → MapPairs → Type 0
 IsUndoNote note page key h old new = IsNoteAt nat_cmp note page key h old new
 
+-- the pairs have the two latest of these stamps at a key that is a number, and the note says what
+-- was there
 abbrev pub RecordsStamps : MapPairs → PageId → ℕ → PageHist → Option UndoNote → MapPairs → Type 0
 RecordsStamps old page key more note new = RecordsAt nat_cmp old page key more note new
 

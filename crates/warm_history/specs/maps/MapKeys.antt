@@ -32,7 +32,7 @@ IsMapKey key = key_of_page (page_of_key key) ≡ key
 abbrev pub near_key : PageId → ℕ
 near_key p = p.dev * NEAR_KEYS_PER_DEVICE + p.no / PAGES_PER_NEAR_KEY
 
--- the page of such a key in the bucket
+-- the page of the bucket that has this near key
 abbrev pub near_page : ℕ → ℕ → PageId
 near_page bucket key =
     record {
@@ -41,7 +41,7 @@ near_page bucket key =
           + (bucket + PAGES_PER_NEAR_KEY - key / NEAR_KEYS_PER_DEVICE) % PAGES_PER_NEAR_KEY;
     }
 
--- the full key of such a key in the bucket
+-- the full key, in the bucket, of the page that has this near key
 abbrev pub full_key : ℕ → ℕ → ℕ
 full_key bucket key = key_in bucket (near_page bucket key)
 

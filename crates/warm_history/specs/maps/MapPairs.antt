@@ -12,7 +12,7 @@ use Rattle.warm_history.specs.ListHistories.{references_of_entry, list_reference
 use Rattle.warm_history.specs.ListHistories.{IsDescending}
 use Rattle.warm_history.specs.maps.MapKeys.{page_of_key, IsMapKey}
 
--- the contents of such maps, by key
+-- the contents of maps from keys to histories of pages, by key
 abbrev pub MapPairs : Type 0
 MapPairs = List (ℕ × PageHist)
 
@@ -49,23 +49,29 @@ references_at key h = references_of_entry (record { page = page_of_key key; hist
 abbrev pub PairsTakeIn : MapPairs → List Reference → MapPairs → Type 0
 PairsTakeIn old rs new = kept new ≡ list_history (list_references_of (kept old) ++ rs)
 
--- the same, for the stamps of the page at a key
+-- the pairs new hold the entries of old, with the stamps of the page at a key taken in
 abbrev pub TakesStamps : MapPairs → ℕ → PageHist → MapPairs → Type 0
 TakesStamps old key h new = PairsTakeIn old (references_at key h) new
 
--- the same, for what isn't older than the horizon: of the stamps of the page at a key, of the
--- references of a list, of the entries of a list, or of the entries of other pairs
+-- the pairs new hold the entries of old, with those stamps of the page at a key taken in that
+-- aren't older than the horizon
 abbrev pub TakesRecent : ℕ → MapPairs → ℕ → PageHist → MapPairs → Type 0
 TakesRecent horizon old key h new =
     PairsTakeIn old (references_from horizon (references_at key h)) new
 
+-- the pairs new hold the entries of old, with those of these references taken in that aren't older
+-- than the horizon
 abbrev pub TakesReferences : ℕ → MapPairs → List Reference → MapPairs → Type 0
 TakesReferences horizon old rs new = PairsTakeIn old (references_from horizon rs) new
 
+-- the pairs new hold the entries of old, with those references of these entries taken in that
+-- aren't older than the horizon
 abbrev pub TakesEntries : ℕ → MapPairs → List Entry → MapPairs → Type 0
 TakesEntries horizon old es new =
     PairsTakeIn old (references_from horizon (list_references_of es)) new
 
+-- the pairs new hold the entries of old, with those references of the pairs `more` taken in that
+-- aren't older than the horizon
 abbrev pub TakesPairs : ℕ → MapPairs → MapPairs → MapPairs → Type 0
 TakesPairs horizon old more new =
     PairsTakeIn old (references_from horizon (list_references_of (kept more))) new

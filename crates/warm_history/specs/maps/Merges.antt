@@ -65,23 +65,28 @@ both_left left others = []
 abbrev pub merge_iter_left : {I : Type 0} → (I → List Entry) → MergeIter I → List Entry
 merge_iter_left left m = from_first (lent_entry m.first) (both_left left m.both)
 
--- the entries left in 2, 4, 8, 16, 32 and all 64 parts
+-- the entries left in 2 parts, merged
 abbrev pub two_left : MergeIter BucketIter → List Entry
 two_left = merge_iter_left bucket_iter_left
 
+-- the entries left in 4 parts, merged
 abbrev pub four_left : MergeIter (MergeIter BucketIter) → List Entry
 four_left = merge_iter_left two_left
 
+-- the entries left in 8 parts, merged
 abbrev pub eight_left : MergeIter (MergeIter (MergeIter BucketIter)) → List Entry
 eight_left = merge_iter_left four_left
 
+-- the entries left in 16 parts, merged
 abbrev pub sixteen_left : MergeIter (MergeIter (MergeIter (MergeIter BucketIter))) → List Entry
 sixteen_left = merge_iter_left eight_left
 
+-- the entries left in 32 parts, merged
 abbrev pub thirty_two_left : MergeIter (MergeIter (MergeIter (MergeIter (MergeIter BucketIter))))
     → List Entry
 thirty_two_left = merge_iter_left sixteen_left
 
+-- the entries left in all 64 parts, merged
 abbrev pub all_left : MergeIter
     (MergeIter (MergeIter (MergeIter (MergeIter (MergeIter BucketIter))))) → List Entry
 all_left = merge_iter_left thirty_two_left

@@ -33,7 +33,7 @@ abbrev pub EachAscends : List MapPairs → Type 0
 EachAscends [] = ⊤
 EachAscends (m ∷ ms) = KeysAscend m × EachAscends ms
 
--- each has so few that the count of all does not overflow
+-- each map has so few pairs that the count of all does not overflow
 abbrev pub EachFew : List MapPairs → Type 0
 EachFew [] = ⊤
 EachFew (m ∷ ms) = (length m < MAX_PAIRS) × EachFew ms
@@ -44,7 +44,8 @@ joined_maps horizon [] more = []
 joined_maps horizon (m ∷ ms) [] = m ∷ ms
 joined_maps horizon (m ∷ ms) (r ∷ more) = merged m (cut_at horizon r) ∷ joined_maps horizon ms more
 
--- of the maps from this number on, the set has those that this changes
+-- of the maps from this number on, the set has those that change as each is merged with the pairs
+-- of another
 abbrev pub HasChanged : ℕ → ℕ → List MapPairs → List MapPairs → ℕ → Type 0
 HasChanged horizon number [] more set = set ≡ 0
 HasChanged horizon number (m ∷ ms) [] set = set ≡ 0

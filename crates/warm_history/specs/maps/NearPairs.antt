@@ -38,6 +38,7 @@ pub record IsMapOf (bucket : ℕ) (m : BucketMap) : Type 0 where
   pub near_few : length m.near.entries < MAX_PAIRS
   pub far_few : length m.far.entries < MAX_PAIRS
 
+-- the maps are of buckets one after the other, the first of the bucket of this number
 abbrev pub AreMapsOf : ℕ → List BucketMap → Type 0
 AreMapsOf bucket [] = ⊤
 AreMapsOf bucket (m ∷ ms) = IsMapOf bucket m × AreMapsOf (bucket + 1) ms
@@ -51,10 +52,11 @@ abbrev pub count_of : List BucketMap → ℕ
 count_of [] = 0
 count_of (m ∷ ms) = length m.near.entries + length m.far.entries + count_of ms
 
--- the pairs of each of the maps
+-- the pairs of each bucket at near keys
 abbrev pub near_pairs : List BucketMap → List MapPairs
 near_pairs ms = map (λ m. m.near.entries) ms
 
+-- the pairs of each bucket at full keys
 abbrev pub far_pairs : List BucketMap → List MapPairs
 far_pairs ms = map (λ m. m.far.entries) ms
 

@@ -64,6 +64,7 @@ prev_unpacked last prev are = cases (prev.replica == 0) refl
         λ i. record { time = sym (are.none none) i; replica = sym none i }
     cases false is = refl
 
+-- packing an unpacked history gives what was packed
 pub packed_again : {A : Type 0} (pack : Stamp → Stamp → A) (last prev : Stamp) → ArePacked last prev
     → pack (last_of (unpacked last prev)) (prev_of (unpacked last prev)) ≡ pack last prev
 packed_again pack last prev are =

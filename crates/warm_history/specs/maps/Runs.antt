@@ -42,11 +42,12 @@ run_pairs horizon (e ∷ es) = pair_of_entry horizon e ++ run_pairs horizon es
 abbrev pub AreNear : List Entry → Type 0
 AreNear es = AllByRecursion (λ e. e.page.dev < NEAR_DEVICES) es
 
--- the same pairs at near keys
+-- the pair, at its near key, of an entry without the stamps older than the horizon, if any is left
 abbrev pub near_pair : ℕ → Entry → MapPairs
 near_pair horizon e =
     at_key (near_key e.page) (latest_of (filter (is_kept horizon) (hist_stamps e.hist)))
 
+-- the pairs of entries, at near keys, without the stamps older than the horizon
 abbrev pub near_run : ℕ → List Entry → MapPairs
 near_run horizon [] = []
 near_run horizon (e ∷ es) = near_pair horizon e ++ near_run horizon es

@@ -18,7 +18,7 @@ abbrev pub put_back_at : {K : Type 0} → (K → K → Ordering) → K → Optio
 put_back_at cmp key None pairs = remove_entry (is_at (cmp key)) pairs
 put_back_at cmp key (Some h) pairs = set_value (is_at (cmp key)) pairs h
 
--- the same for keys that are numbers
+-- the pairs with the old value at a key that is a number restored
 abbrev pub put_back : ℕ → Option PageHist → MapPairs → MapPairs
 put_back key known pairs = put_back_at nat_cmp key known pairs
 
@@ -32,7 +32,7 @@ abbrev pub note_of : PageId → Change → PageHist → UndoNote
 note_of page New before = record { page = page; hist = None }
 note_of page Known before = record { page = page; hist = Some before }
 
--- the same of a change, if there was one
+-- the note of a change of a page, or none if there was no change
 abbrev pub noted : PageId → Option Change → PageHist → Option UndoNote
 noted page None before = None
 noted page (Some change) before = Some (note_of page change before)

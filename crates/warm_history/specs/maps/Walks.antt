@@ -73,7 +73,7 @@ AreParts old (e ∷ run) changed fresh = (c : MapPairs) × (f : MapPairs) × Are
 abbrev pub AreAbsent : MapPairs → MapPairs → Type 0
 AreAbsent pairs old = AllByRecursion (λ e. found e.0 old ≡ None) pairs
 
--- they have one at each
+-- the pairs old have a value at each key of the pairs
 abbrev pub AreThere : MapPairs → MapPairs → Type 0
 AreThere pairs old = AllByRecursion (λ e. IsSome (found e.0 old)) pairs
 
