@@ -97,7 +97,9 @@ def check_help(program):
 
 def formats():
     """The formats that the newest version reads and writes, from the table of CHANGELOG."""
-    table = re.findall(r"^\| \w+, `(\w+)` \| [^|]* \| ([^|]*) \| ([^|]*) \|$", (TOP / "CHANGELOG.md").read_text(), re.MULTILINE)
+    table = re.findall(r"^\| *\w+, *`(\w+)` *\|[^|]*\| *([^|]*?) *\| *([^|]*?) *\|$", (TOP / "CHANGELOG.md").read_text(), re.MULTILINE)
+    if not table:
+        raise Wrong("CHANGELOG has no table of formats")
     still = re.compile("all|since")
     return [name for name, _, read in table if still.match(read)], [name for name, written, _ in table if still.match(written)]
 
