@@ -5,8 +5,8 @@ use Rattle.warm_world.specs.declared.event.Event.{Event}
 use Rattle.warm_world.specs.declared.event.Answer.{Answer}
 use Rattle.warm_world.specs.declared.event.WorldFault.TheVariants.{Node}
 use Rattle.warm_world.specs.States.{ModelState}
-use Rattle.warm_world.specs.Next.{Run}
-use Rattle.warm_world.specs.Stands.{IsRightRun}
+use Rattle.warm_world.specs.Effects.{Run}
+use Rattle.warm_world.specs.WorldStands.{IsRightRun}
 use Rattle.warm_player.specs.declared.parse.Line.{Line}
 use Rattle.warm_player.specs.declared.parse.Line.TheVariants as meant
 use Rattle.warm_player.specs.Text.{lines}

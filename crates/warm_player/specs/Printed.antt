@@ -9,7 +9,7 @@ use Rattle.warm_world.specs.declared.event.Answer.{Answer}
 use Rattle.warm_world.specs.declared.event.WorldFault.TheVariants.{Node}
 use Rattle.warm_world.specs.Lists.{IsNumber}
 use Rattle.warm_world.specs.States.{ModelState, pool_of}
-use Rattle.warm_world.specs.Next.{Next}
+use Rattle.warm_world.specs.Effects.{Next}
 use Rattle.warm_player.specs.declared.parse.Line.{Line}
 use Rattle.warm_player.specs.declared.parse.Line.TheVariants as meant
 use Rattle.warm_player.specs.Text.{lines}

@@ -2,7 +2,7 @@
 use Rattle.std.specs.Prelude.{◌≡◌, ℕ, ◌+◌, List, [], ◌++◌, take}
 use Rattle.warm_world.specs.States.{ModelState}
 use Rattle.warm_world.specs.Views.{WorldView, world_view}
-use Rattle.warm_world.specs.Stands.{WorldStands}
+use Rattle.warm_world.specs.WorldStands.{WorldStands}
 use Rattle.warm_player.specs.Text.{IsLine, lines}
 use Rattle.warm_player.specs.Grammar.{meaning}
 use Rattle.warm_player.specs.Printed.{LineAnswered, PrintedFrom, EndsIn}

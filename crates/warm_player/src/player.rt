@@ -7,7 +7,7 @@ ghost use Rattle.warm_world.specs.declared.play_fault.PlayFault.TheVariants.{Bad
 ghost use Rattle.warm_world.specs.declared.play_fault.PlayFault.TheVariants.{WriteFault};
 ghost use Rattle.warm_world.specs.Opening.{AreFew, AreFitting};
 ghost use Rattle.warm_world.specs.Views.{IsAtRest, listed, world_view};
-ghost use Rattle.warm_world.specs.Stands.{WorldStands};
+ghost use Rattle.warm_world.specs.WorldStands.{WorldStands};
 ghost use Rattle.warm_world.specs.declared.event.WorldFault.TheVariants.{Node};
 ghost use Rattle.warm_gossip.specs.declared.fault.NodeFault.TheVariants as node;
 ghost use Rattle.warm_player.specs.Text.{IsLine};
