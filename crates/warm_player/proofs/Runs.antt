@@ -7,7 +7,7 @@ use Rattle.warm_world.specs.Effects.{Run}
 use Rattle.warm_player.specs.declared.parse.Line.{Line}
 use Rattle.warm_player.specs.declared.parse.Line.TheVariants as meant
 use Rattle.warm_player.specs.Grammar.{meaning}
-use Rattle.warm_player.specs.Printed.{LineAnswered, PrintedFrom}
+use Rattle.warm_player.specs.Outputs.{LineAnswered, PrintedFrom}
 use Rattle.warm_player.specs.Laws.{LineIs, LinesAre}
 
 -- the events of lines, answered so, and the run by them

@@ -11,7 +11,7 @@ use Rattle.std.proofs.lemmas.List.{append-nil, take_all, take-append-le, length-
 use Rattle.warm_random.proofs.AppendLemmas.{Appends-then}
 use Rattle.warm_player.specs.Text.{IsLine, split, lines}
 use Rattle.warm_player.specs.Grammar.{meaning}
-use Rattle.warm_player.specs.Printed.{LineAnswered, PrintedFrom, Played, EndsIn}
+use Rattle.warm_player.specs.Outputs.{LineAnswered, PrintedFrom, Played, EndsIn}
 use Rattle.warm_player.specs.Reading.{Reads, PutsBytes, IsPut}
 use Rattle.warm_player.specs.Stream.{SessionView, HoldsLine, SessionStands, AddsBytes, AnswersLine, ReadsOn, PrintsEnding, Ends}
 use Rattle.warm_player.specs.Refusals.{StopsPlay, PlayRefused}

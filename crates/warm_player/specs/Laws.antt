@@ -13,7 +13,7 @@ use Rattle.warm_player.specs.Text.{lines}
 use Rattle.warm_player.specs.Grammar.{meaning}
 use Rattle.warm_player.specs.Reading.{IsPut}
 use Rattle.warm_player.specs.Answers.{answer_text, refused_text, bad_line}
-use Rattle.warm_player.specs.Printed.{Printed}
+use Rattle.warm_player.specs.Outputs.{Printed}
 
 -- A line of this meaning and number is these events with these answers, and prints this: one event,
 -- or none for a bad line, a line without meaning, and a put for whose bytes the allocation failed.

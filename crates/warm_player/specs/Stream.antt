@@ -5,7 +5,7 @@ use Rattle.warm_world.specs.Views.{WorldView, world_view}
 use Rattle.warm_world.specs.WorldStands.{WorldStands}
 use Rattle.warm_player.specs.Text.{IsLine, lines}
 use Rattle.warm_player.specs.Grammar.{meaning}
-use Rattle.warm_player.specs.Printed.{LineAnswered, PrintedFrom, EndsIn}
+use Rattle.warm_player.specs.Outputs.{LineAnswered, PrintedFrom, EndsIn}
 use Rattle.warm_player.specs.declared.parse.TheConstants.{MAX_LINE}
 use Rattle.warm_player.specs.declared.player.Session.{Session}
 

@@ -2,7 +2,7 @@
 use Rattle.std.proofs.Common.{◌≡◌, ℕ, ◌+◌, ◌<◌, List, [], ◌∷◌, ◌++◌, length, map, take, get_or, sym, ap, ◌∙◌, append_assoc, arith}
 use Rattle.std.proofs.lemmas.List.{append-nil, length-map, length-take-le, map-append, take_more}
 use Rattle.warm_gossip.specs.State.{NodeView}
-use Rattle.warm_threads.specs.Shown.{replica_text, replicas_text}
+use Rattle.warm_threads.specs.ReplicaTexts.{replica_text, replicas_text}
 
 -- one more
 one_more_shown : (i j : ℕ) (shown : List NodeView) (node : NodeView) → j ≡ i + length shown

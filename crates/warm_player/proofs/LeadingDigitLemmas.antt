@@ -4,7 +4,7 @@ use Rattle.std.proofs.lemmas.Bool.{cases_Bool}
 use Rattle.std.proofs.lemmas.List.Sums.{take_while-cons}
 use Rattle.std.specs.List.{prefix_len}
 use Rattle.warm_player.specs.Fields.{◌>>=◌, digit_of, digits_after, number_up_to, up_to}
-use Rattle.warm_player.specs.Heads.{is_digit, leading_digits, after_digits}
+use Rattle.warm_player.specs.TextHeads.{is_digit, leading_digits, after_digits}
 
 pub digit_more : (c : ℕ) (cs : List ℕ) → is_digit c ≡ true
     → leading_digits (c ∷ cs) ≡ c ∷ leading_digits cs

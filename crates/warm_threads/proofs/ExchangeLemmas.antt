@@ -19,8 +19,8 @@ use Rattle.warm_frames.specs.Limits.{entries_in}
 use Rattle.warm_threads.specs.Exchanges.{IsReceipt, SendsAll, SendsBucket}
 use Rattle.warm_threads.specs.Numbers.{NumberedFrom}
 use Rattle.warm_threads.specs.Works.{LeadsBy}
-use Rattle.warm_threads.proofs.Numberings.{numbered_more}
-use Rattle.warm_threads.proofs.Runnings.{runs_then}
+use Rattle.warm_threads.proofs.NumberLemmas.{numbered_more}
+use Rattle.warm_threads.proofs.RunLemmas.{runs_then}
 
 -- the page of the last entry
 pub last_page_at : (es : List Entry) (i : ℕ) (e : Entry) → suc i ≡ length es → e ≡ get_or es i e

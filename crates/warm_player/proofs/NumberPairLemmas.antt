@@ -4,10 +4,10 @@ use Rattle.std.proofs.lemmas.Bool.{cases_Bool, cases_eq, eq-eqb, ne_eqb}
 use Rattle.std.specs.Prelude.{option_map}
 use Rattle.warm_player.specs.Text.{split}
 use Rattle.warm_player.specs.Fields.{◌>>=◌, digit_of, digits_after, number_up_to}
-use Rattle.warm_player.specs.Heads.{is_digit, leading_digits, after_digits, head_number, behind}
-use Rattle.warm_player.specs.Heads.{words_behind}
-use Rattle.warm_player.proofs.Leading.{digit_more, digit_stop, after_more, after_stop, no_digit, stop, no_digits, none_up_to}
-use Rattle.warm_player.proofs.Split.{first_of_split}
+use Rattle.warm_player.specs.TextHeads.{is_digit, leading_digits, after_digits, head_number, behind}
+use Rattle.warm_player.specs.TextHeads.{words_behind}
+use Rattle.warm_player.proofs.LeadingDigitLemmas.{digit_more, digit_stop, after_more, after_stop, no_digit, stop, no_digits, none_up_to}
+use Rattle.warm_player.proofs.SplitLemmas.{first_of_split}
 use Rattle.warm_player.proofs.Words.{first_word, words_later, word_digits, word_after, later_is, looks_on, nothing_then, number_end}
 
 -- what is made of two parts that spell numbers

@@ -12,8 +12,8 @@ use Rattle.warm_world.specs.Sizes.{Sizes}
 use Rattle.warm_threads.specs.Asks.{asks}
 use Rattle.warm_world.specs.Nodes.{nodes_over}
 use Rattle.warm_threads.specs.Plans.{AreJobsOf}
-use Rattle.warm_threads.specs.Played.{PlayedInThreads}
-use Rattle.warm_threads.specs.Shown.{replicas_text}
+use Rattle.warm_threads.specs.Plays.{PlayedInThreads}
+use Rattle.warm_threads.specs.ReplicaTexts.{replicas_text}
 use Rattle.warm_threads.specs.Works.{Went}
 
 pub played_of : {E : Type 0} (result : Result (Unit {0}) E) (text old new : Option (List ℕ))

@@ -10,7 +10,7 @@ use Rattle.warm_world.specs.Sizes.{Sizes}
 use Rattle.warm_threads.specs.Asks.{asks}
 use Rattle.warm_world.specs.Nodes.{nodes_over}
 use Rattle.warm_threads.specs.Plans.{AreJobsOf}
-use Rattle.warm_threads.specs.Shown.{replicas_text}
+use Rattle.warm_threads.specs.ReplicaTexts.{replicas_text}
 use Rattle.warm_threads.specs.Works.{Went}
 
 -- The workers of each replica carried out the requests of the lines of the text. The replicas,

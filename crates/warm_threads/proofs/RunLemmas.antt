@@ -15,7 +15,7 @@ use Rattle.warm_replica.specs.Pairs.{Pairs}
 use Rattle.warm_replica.specs.Replied.{AreTaken, Replied}
 use Rattle.warm_threads.specs.Exchanges.{SendsAll, IsReceipt}
 use Rattle.warm_threads.specs.Works.{LeadsBy, Works, WentOn, Went}
-use Rattle.warm_threads.proofs.Pairings.{pairs_then, triples_of}
+use Rattle.warm_threads.proofs.PairLemmas.{pairs_then, triples_of}
 
 module _ {X : Type 0} (goes : X → Call → Reply → X → Type 0) where
   pub runs_then : (x y z : X) (first second : Calls) → Runs goes x first y → Runs goes y second z

@@ -14,7 +14,7 @@ use Rattle.warm_threads.specs.Asks.{has_worker, is_number}
 use Rattle.warm_threads.specs.Numbers.{Numbered}
 use Rattle.warm_threads.specs.Steps.{Planned, nothing_planned}
 use Rattle.warm_threads.specs.Plans.{plan_task, plan_tasks, is_of, tasks_of, plan_of, IsShaped, ArePlansOf, DoesPlan, DoPlans, IsJobOf, AreJobsOf}
-use Rattle.warm_threads.proofs.Numberings.{numbered_at, numbered_map, numbered_more, numbered_pairs, numbered_replicate, numbered_set, pairs_length, all_pairs}
+use Rattle.warm_threads.proofs.NumberLemmas.{numbered_at, numbered_map, numbered_more, numbered_pairs, numbered_replicate, numbered_set, pairs_length, all_pairs}
 
 -- a worker that there is
 pub has_numbers : (s : Sizes) (i w : ℕ) → has_worker s i w ≡ true
