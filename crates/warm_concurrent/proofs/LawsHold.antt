@@ -10,7 +10,7 @@ use Rattle.warm_history.proofs.JoinLemmas.{history_first, history_second}
 use Rattle.warm_machine.specs.declared.operation.Operation.{Operation}
 use Rattle.warm_machine.specs.Runs.{Runs, operation}
 use Rattle.warm_turn.specs.CallHistories.{marked}
-use Rattle.warm_turn.proofs.Passes.{Extended-called, Widened-joined}
+use Rattle.warm_turn.proofs.PassLemmas.{Extended-called, Widened-joined}
 use Rattle.warm_pool.specs.declared.fault.PoolFault.TheVariants.{SizeDiffers}
 use Rattle.warm_gossip.specs.Clauses.{JoinsEntries, NodeWriteBackFails, SameView}
 use Rattle.warm_gossip.specs.State.{NodeState, NodeView, node_view}
@@ -20,7 +20,7 @@ use Rattle.warm_gossip.specs.declared.call.Reply.{Reply}
 use Rattle.warm_gossip.specs.declared.call.Reply.TheVariants as node_reply
 use Rattle.warm_gossip.specs.declared.fault.NodeFault.{NodeFault}
 use Rattle.warm_gossip.specs.declared.fault.NodeFault.TheVariants.{Memory, Pool}
-use Rattle.warm_gossip.proofs.Given.{told_is_history}
+use Rattle.warm_gossip.proofs.GivenLemmas.{told_is_history}
 use Rattle.warm_frames.specs.declared.message.Message.{Message}
 use Rattle.warm_frames.specs.declared.message.Message.TheVariants.{Entries}
 use Rattle.warm_stamps.specs.declared.Reference.{Reference}

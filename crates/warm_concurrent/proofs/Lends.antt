@@ -18,7 +18,7 @@ use Rattle.warm_gossip.specs.State.{NodeState, NodeView, node_view}
 use Rattle.warm_gossip.specs.Step.{Refuses, Step}
 use Rattle.warm_gossip.specs.declared.fault.NodeFault.{NodeFault}
 use Rattle.warm_gossip.specs.declared.fault.NodeFault.TheVariants.{StaleSlot}
-use Rattle.warm_gossip.proofs.Lents.{lent_bytes}
+use Rattle.warm_gossip.proofs.LendingLemmas.{lent_bytes}
 use Rattle.warm_concurrent.specs.ShardSteps.{CallStep, Changes, Looks}
 
 adds_holds : (v w : PoolView) (p : PageId) (slot : Slot) → AddsFix v p slot w → Holds w slot

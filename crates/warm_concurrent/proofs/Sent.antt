@@ -12,7 +12,7 @@ use Rattle.warm_concurrent.specs.contracts.call.ShardCall as ShardCall
 use Rattle.warm_concurrent.specs.contracts.call.ShardReply as ShardReply
 use Rattle.warm_concurrent.specs.contracts.shard.StateOfShard as StateOfShard
 use Rattle.warm_concurrent.specs.ShardSteps.{ShardState, ShardStep}
-use Rattle.warm_turn.proofs.Sent.{pass_send, turn_sync}
+use Rattle.warm_turn.proofs.SendLemmas.{pass_send, turn_sync}
 use Rattle.warm_concurrent.specs.contracts.shard.Shard as Shard
 use Rattle.warm_concurrent.proofs.shard.Shard.TheSendSync.{the_send}
 use Rattle.warm_concurrent.specs.contracts.shared.Attached as Attached
