@@ -18,10 +18,10 @@ use Rattle.warm_gossip.specs.State.{NodeState, NodeView, node_view}
 use Rattle.warm_shards.specs.Clauses.{HasPart, KeepPools, TakesInFirst, Together}
 use Rattle.warm_shards.specs.Shards.{AreShards, IsShardCount, of_first_shards, shard_at, shard_of, whole}
 use Rattle.warm_shards.proofs.Calls.{absorb_refused, absorbed_next, id_stays, keep_none, keep_one, part_is_own, read_at, same_shard}
-use Rattle.warm_shards.proofs.Joined.{taken_more, taken_none, taken_past}
-use Rattle.warm_shards.proofs.Keeping.{still_shards}
+use Rattle.warm_shards.proofs.OfFirstShardsLemmas.{taken_more, taken_none, taken_past}
+use Rattle.warm_shards.proofs.AreShardsLemmas.{still_shards}
 use Rattle.warm_shards.proofs.PartLemmas.{all_parts}
-use Rattle.warm_shards.proofs.Taking.{one_stays}
+use Rattle.warm_shards.proofs.WholeLemmas.{one_stays}
 
 -- the first k shards have absorbed their parts of the batch
 pub record HaveAbsorbed (old : List NodeState) (batch : List Reference) (k : ℕ)

@@ -31,7 +31,7 @@ use Rattle.warm_gossip.specs.Step.{IsNextWarm, nth_page}
 use Rattle.warm_gossip.proofs.VictimLemmas.{KeepsPages, frames_after}
 use Rattle.warm_shards.specs.Clauses.{KeepPools, SameShards}
 use Rattle.warm_shards.specs.Shards.{AreShards, HoldsPagesOf, IsShard, held, shard_at, shard_of, whole}
-use Rattle.warm_shards.proofs.Keeping.{all_shards, at_each, still_shards}
+use Rattle.warm_shards.proofs.AreShardsLemmas.{all_shards, at_each, still_shards}
 use Rattle.warm_shards.proofs.Pages.{all_held, all_pages, all_taken, each_has}
 
 -- ---- pools that stay

@@ -13,8 +13,8 @@ use Rattle.warm_shards.specs.Shards.{AreShards, IsShard, IsShardCount, shard_at,
 use Rattle.warm_shards.proofs.Absorbing.{some_shards}
 use Rattle.warm_shards.proofs.Buckets.{shard_horizon}
 use Rattle.warm_shards.proofs.Calls.{keep_none, keep_one, read_at, takes_shard}
-use Rattle.warm_shards.proofs.Joined.{raised_first, raised_next}
-use Rattle.warm_shards.proofs.Keeping.{all_shards, at_each}
+use Rattle.warm_shards.proofs.OfFirstShardsLemmas.{raised_first, raised_next}
+use Rattle.warm_shards.proofs.AreShardsLemmas.{all_shards, at_each}
 
 -- the first k shards are raised, and the others are as before
 pub record HaveRisen (old : List NodeState) (time k : ℕ) (ns : List NodeState) : Type 0 where

@@ -14,7 +14,7 @@ use Rattle.warm_shards.specs.Clauses.{HasPart, KeepPools, TakesInFirst}
 use Rattle.warm_shards.specs.Parts.{part_of_entries}
 use Rattle.warm_shards.specs.Shards.{AreShards, as_node, of_first_shards, of_shard, shard_at, shard_of, whole}
 use Rattle.warm_shards.proofs.Absorbing.{below_count, some_shards}
-use Rattle.warm_shards.proofs.Alone.{StaysAlone, TakesAlone, alone_id, alone_pools, alone_shards, alone_whole, joins_alone, none_taken, not_joined, stays_pools, stays_shards, stays_whole}
+use Rattle.warm_shards.proofs.OneShardLemmas.{StaysAlone, TakesAlone, alone_id, alone_pools, alone_shards, alone_whole, joins_alone, none_taken, not_joined, stays_pools, stays_shards, stays_whole}
 use Rattle.warm_shards.proofs.Buckets.{shard_horizon}
 use Rattle.warm_shards.proofs.Calls.{id_stays, keep_none, keep_then}
 use Rattle.warm_shards.proofs.PartEntries.{part_own, part_refs}

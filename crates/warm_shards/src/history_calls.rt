@@ -9,8 +9,8 @@ ghost use Rattle.warm_shards.specs.Clauses.{KeepPools, TakesInFirst, Together};
 ghost use Rattle.warm_shards.specs.Clauses.{TogetherAnswered};
 ghost use Rattle.warm_shards.specs.Shards.{AreShards, shard_of};
 
+use crate::batch_parts::{only_shard, parts_of};
 use crate::shards::Shards;
-use crate::splitting::{only_shard, parts_of};
 use std::alloc::Global;
 use warm_devices::PageDevice;
 use warm_gossip::{Node, NodeFault};

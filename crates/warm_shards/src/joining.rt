@@ -6,8 +6,8 @@ ghost use Rattle.warm_gossip.specs.declared.fault.NodeFault.TheVariants.{Memory}
 ghost use Rattle.warm_shards.specs.Clauses.{JoinsAll, KeepPools, TakesInFirst};
 ghost use Rattle.warm_shards.specs.Shards.{AreShards, shard_at, shard_of};
 
-use crate::parts::{has_part, part_of_entries};
-use crate::splitting::only_shard;
+use crate::batch_parts::only_shard;
+use crate::message_parts::{has_part, part_of_entries};
 use std::alloc::Global;
 use warm_devices::PageDevice;
 use warm_gossip::{Node, NodeFault};

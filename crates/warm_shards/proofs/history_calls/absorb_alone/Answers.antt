@@ -1,7 +1,7 @@
 use Rattle.std.proofs.Common.{◌∙◌}
 use Rattle.std.proofs.lemmas.Result.{err_from_is_err_and}
 use Rattle.warm_history.specs.ReferenceSets.{set_of_list}
-use Rattle.warm_shards.proofs.Alone.{absorbs_alone, alone_node, alone_pools, alone_shards, refuses_alone, stays_first, stays_pools, stays_shards}
+use Rattle.warm_shards.proofs.OneShardLemmas.{absorbs_alone, alone_node, alone_pools, alone_shards, refuses_alone, stays_first, stays_pools, stays_shards}
 use Rattle.warm_shards.proofs.history_calls.absorb_alone.Goals as goal
 
 pub returns-in_err-absorb-clause-shards : goal.returns-in_err-absorb-clause-shards

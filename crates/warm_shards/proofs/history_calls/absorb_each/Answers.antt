@@ -6,7 +6,7 @@ use Rattle.warm_stamps.specs.declared.Reference.{Reference}
 use Rattle.warm_shards.specs.Shards.{shard_of}
 use Rattle.warm_shards.proofs.Absorbing.{absorbed_all, absorbed_more, absorbed_past, absorbed_refused, absorbed_some, none_absorbed, part_is_there, some_shards}
 use Rattle.warm_shards.proofs.Dividing.{nth_part}
-use Rattle.warm_shards.proofs.Joined.{taken_none}
+use Rattle.warm_shards.proofs.OfFirstShardsLemmas.{taken_none}
 use Rattle.warm_shards.proofs.history_calls.absorb_each.Goals as goal
 
 pub returns-in_err-parts-clause-refused : goal.returns-in_err-parts-clause-refused

@@ -1,4 +1,4 @@
-use Rattle.warm_shards.proofs.Alone.{joined_alone, joined_pools, joined_shards, unjoined}
+use Rattle.warm_shards.proofs.OneShardLemmas.{joined_alone, joined_pools, joined_shards, unjoined}
 use Rattle.warm_shards.proofs.joining.join_alone.Goals as goal
 
 pub returns-clause-shards : goal.returns-clause-shards

@@ -1,6 +1,6 @@
 use Rattle.std.proofs.Common.{arith, rules}
-use Rattle.warm_shards.specs.Forming.{CanBeShards}
-use Rattle.warm_shards.proofs.Formed.{formed_shards, risen_each, risen_whole}
+use Rattle.warm_shards.specs.ShardsOfNodes.{CanBeShards}
+use Rattle.warm_shards.proofs.ShardsOfNodesLemmas.{formed_shards, risen_each, risen_whole}
 use Rattle.warm_shards.proofs.shards.Shards.from_nodes.Goals as goal
 
 pub invariant_of-result : goal.invariant_of-result
