@@ -26,7 +26,7 @@ use Rattle.warm_gossip.specs.State.{NodeState, node_view}
 use Rattle.warm_shards.specs.Clauses.{SameShards, Together, TogetherAnswered}
 use Rattle.warm_shards.specs.Digests.{FillsShard}
 use Rattle.warm_shards.specs.Shards.{AreShards, as_node, held, shard_at, whole}
-use Rattle.warm_shards.proofs.Absorbing.{some_shards}
+use Rattle.warm_shards.proofs.AreShardsLemmas.{some_shards}
 use Rattle.warm_shards.proofs.Buckets.{bucket_whole, sent_since_whole, since_entries, since_whole, sent_whole, shard_horizon}
 use Rattle.warm_shards.proofs.Calls.{read_at, same_histories, same_ids, same_one, same_whole}
 use Rattle.warm_shards.proofs.DigestLemmas.{AreGathered, digest_whole, gathered_more}

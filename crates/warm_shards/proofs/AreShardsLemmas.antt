@@ -1,7 +1,8 @@
 -- A shard changes: all are still shards.
-use Rattle.std.proofs.Common.{◌≡◌, ◌≢◌, ℕ, ◌<◌, Bool, true, false, List, length, set, refl, sym, subst, ◌∙◌, arith}
+use Rattle.std.proofs.Common.{◌≡◌, ◌≢◌, ℕ, ◌<◌, Bool, true, false, List, count_ones, length, set, refl, sym, subst, ◌∙◌, arith}
 use Rattle.std.specs.Prelude.{nat_eq}
 use Rattle.std.proofs.lemmas.Bool.{eq-eqb, eqb-true}
+use Rattle.std.proofs.lemmas.Nat.{ones_le_self}
 use Rattle.std.proofs.lemmas.List.{get_or-set_other, get_or-set_same, length-set}
 use Rattle.warm_gossip.specs.State.{NodeState}
 use Rattle.warm_shards.specs.Shards.{AreShards, IsShard, IsShardCount, no_shard, shard_at}
@@ -41,3 +42,11 @@ still_shards ns i m are lt new =
     let long : length (set ns i m) ≡ length ns = length-set ns i m in
     let shard : (k : ℕ) → k < length ns → IsShard (length ns) number latest k (shard_at (set ns i m) k) = at_each (λ k n. k < length ns → IsShard (length ns) number latest k n) ns i m lt (λ less. new) (λ k other less. are.each k less) in
     all_shards number latest (set ns i m) (rw long are.count) (omega arith) (λ k less. subst (λ c. IsShard c number latest k (shard_at (set ns i m) k)) (sym long) (shard k (omega arith)))
+
+pub some_count : (count : ℕ) → IsShardCount count → 0 < count
+some_count count valid =
+    let one : count_ones count ≡ 1 = eqb-true (count_ones count) 1 valid.0 in
+    omega (arith, ones_le_self count)
+
+pub some_shards : (ns : List NodeState) → AreShards ns → 0 < length ns
+some_shards ns are = some_count (length ns) are.count

@@ -29,11 +29,10 @@ use Rattle.warm_gossip.proofs.EngineLemmas.{known_pool}
 use Rattle.warm_shards.specs.Shards.{AreShards, IsShard, IsShardCount, held, no_shard, shard_at, shard_of, whole}
 use Rattle.warm_shards.specs.EachShard.{DeviceFails, HasFixed, HasForgotten, IsClean, IsUnchanged, IsWritten, OfEach, OfFirst, RestartRefused, RestartStops, Rises, ShardFlushFails, ShardForgetsPages, ShardRestarts, ShardSettles, ShardWriteFails}
 use Rattle.warm_shards.specs.EachShard.{ShardsAreUnfixed, StopsAtShard, WriteBackStops}
-use Rattle.warm_shards.proofs.Absorbing.{some_shards}
 use Rattle.warm_shards.proofs.Buckets.{shard_horizon}
 use Rattle.warm_shards.proofs.Calls.{HasOnly, pool_shard, read_at, same_shard}
 use Rattle.warm_shards.proofs.EngineCalls.{forgotten_own, same_own}
-use Rattle.warm_shards.proofs.AreShardsLemmas.{all_shards, at_each}
+use Rattle.warm_shards.proofs.AreShardsLemmas.{all_shards, at_each, some_shards}
 use Rattle.warm_shards.proofs.PoolCalls.{OnlyPool}
 use Rattle.warm_shards.proofs.WholeLemmas.{none_joined}
 

@@ -1,24 +1,20 @@
 -- Shards of nodes that have run: each is raised to the latest horizon, and all together are what
 -- the nodes were.
-use Rattle.std.proofs.Common.{◌≡◌, ℕ, zero, suc, ◌<◌, ◌≤◌, List, [], ◌∷◌, length, max, take, refl, sym, ap, subst, ◌∙◌, arith}
-use Rattle.warm_history.specs.ReferenceSets.{ReferenceSet, with_horizon, ◌∪◌}
+use Rattle.std.proofs.Common.{◌≡◌, ℕ, zero, suc, ◌<◌, ◌≤◌, List, [], ◌∷◌, length, max, take, sym, ap, subst, ◌∙◌, arith}
+use Rattle.warm_history.specs.ReferenceSets.{with_horizon, ◌∪◌}
 use Rattle.warm_history.specs.Histories.{HistoryView, IsHistory, history, references_of}
 use Rattle.warm_history.proofs.HistoryLemmas.{IsHistory-history, horizon-history}
-use Rattle.warm_history.proofs.JoinLemmas.{both_assoc, history_first, history_second, raised_to_no_later}
+use Rattle.warm_history.proofs.JoinLemmas.{raised_to_no_later}
 use Rattle.warm_gossip.specs.State.{NodeState, NodeView}
 use Rattle.warm_shards.specs.ShardsOfNodes.{CanBeShards}
 use Rattle.warm_shards.specs.Shards.{AreShards, IsShard, IsShardCount, held, shard_at, whole}
+use Rattle.warm_shards.specs.Given.{at_horizon}
 use Rattle.warm_shards.specs.EachShard.{OfEach, OfFirst, Rises}
-use Rattle.warm_shards.proofs.Absorbing.{some_count}
 use Rattle.warm_shards.proofs.Calls.{takes_own}
-use Rattle.warm_shards.proofs.OfFirstShardsLemmas.{twice}
-use Rattle.warm_shards.proofs.AreShardsLemmas.{all_shards}
+use Rattle.warm_shards.proofs.AreShardsLemmas.{all_shards, some_count}
 use Rattle.warm_shards.proofs.EachShardLemmas.{gone_all}
-use Rattle.warm_shards.proofs.WholeLemmas.{last_two, whole_more}
-
--- a time without a reference
-abbrev at_time : ℕ → ReferenceSet
-at_time time = record { horizon = time; given = [] }
+use Rattle.warm_shards.proofs.WholeLemmas.{whole_more}
+use Rattle.warm_shards.proofs.WholeParts.{parts_taken}
 
 -- ---- horizons
 
@@ -40,66 +36,13 @@ pub raised_horizon : (n m : NodeState) (time : ℕ) → Rises time n m
 raised_horizon n m time rises =
     ap (λ (v : NodeView). v.history.horizon) rises.0 ∙ horizon-history (with_horizon time (references_of n.history))
 
--- raised nodes have no earlier horizon
-held_later : (ns ms : List NodeState) (time : ℕ) → length ms ≡ length ns
-    → ((i : ℕ) → i < length ns → Rises time (shard_at ns i) (shard_at ms i))
-    → (held ns).horizon ≤ (held ms).horizon
-held_later [] [] time long rises = omega arith
-held_later [] (m ∷ ms) time long rises = absurd (omega arith)
-held_later (n ∷ ns) [] time long rises = absurd (omega arith)
-held_later (n ∷ ns) (m ∷ ms) time long rises =
-    both n.history.horizon m.history.horizon time (held ns).horizon (held ms).horizon (raised_horizon n m time (rises 0 (omega arith))) (held_later ns ms time (omega arith) (λ i lt. rises (suc i) (omega arith)))
-  where
-    both : (a b t c d : ℕ) → b ≡ max a t → c ≤ d → max a c ≤ max b d
-    both a b t c d is le = omega (arith, is, le)
-
--- ---- all together
-
--- a set and a rest, each raised, and raised once
-raised_once : (time : ℕ) (R H : ReferenceSet)
-    → history (with_horizon time R ∪ with_horizon time H) ≡ history (with_horizon time (R ∪ H))
-raised_once time R H =
-    let T = at_time time in
-    ap history (sym (both_assoc (R ∪ T) H T))
-    ∙ sym (history_first ((R ∪ T) ∪ H) T)
-    ∙ ap (λ h. history (references_of h ∪ T)) (last_two R T H)
-    ∙ history_first ((R ∪ H) ∪ T) T
-    ∙ ap history (twice time (R ∪ H))
-
-held_raised : (ns ms : List NodeState) (time : ℕ) → length ms ≡ length ns
-    → ((i : ℕ) → i < length ns → Rises time (shard_at ns i) (shard_at ms i))
-    → history (with_horizon time (held ms)) ≡ history (with_horizon time (held ns))
-held_raised [] [] time long rises = refl
-held_raised [] (m ∷ ms) time long rises = absurd (omega arith)
-held_raised (n ∷ ns) [] time long rises = absurd (omega arith)
-held_raised (n ∷ ns) (m ∷ ms) time long rises =
-    let T = at_time time in
-    let R = references_of n.history in
-    let is : m.history ≡ history (R ∪ T) = ap (λ (v : NodeView). v.history) (rises 0 (omega arith)).0 in
-    ap (λ h. history ((references_of h ∪ held ms) ∪ T)) is
-    ∙ ap history (both_assoc (references_of (history (R ∪ T))) (held ms) T)
-    ∙ history_first (R ∪ T) (held ms ∪ T)
-    ∙ sym (history_second (R ∪ T) (held ms ∪ T))
-    ∙ ap (λ h. history ((R ∪ T) ∪ references_of h)) (held_raised ns ms time (omega arith) (λ i lt. rises (suc i) (omega arith)))
-    ∙ history_second (R ∪ T) (held ns ∪ T)
-    ∙ raised_once time R (held ns)
-
--- raised to a horizon that it has, the whole stays
-no_later : (ns : List NodeState) (time : ℕ) → time ≤ (held ns).horizon
-    → history (with_horizon time (held ns)) ≡ whole ns
-no_later ns time le =
-    sym (history_first (held ns) (at_time time))
-    ∙ raised_to_no_later (whole ns) time (IsHistory-history (held ns)) (subst (λ x. time ≤ x) (sym (horizon-history (held ns))) le)
-
-pub risen_whole : (ns ms : List NodeState) → OfEach (Rises (whole ns).horizon) ns ms
-    → whole ms ≡ whole ns
-risen_whole ns ms rises =
+-- all together are what the nodes were
+pub risen_whole : (ns ms : List NodeState) → IsShardCount (length ns)
+    → OfEach (Rises (whole ns).horizon) ns ms → whole ms ≡ whole ns
+risen_whole ns ms valid rises =
     let time = (whole ns).horizon in
-    let is : time ≡ (held ns).horizon = horizon-history (held ns) in
-    let later = held_later ns ms time rises.count rises.each in
-    sym (no_later ms time (omega (arith, is, later)))
-    ∙ held_raised ns ms time rises.count rises.each
-    ∙ no_later ns time (omega (arith, is))
+    parts_taken (at_horizon time) ns ms valid rises.count (λ i lt. ap (λ (v : NodeView). v.history) (rises.each i lt).0)
+    ∙ raised_to_no_later (whole ns) time (IsHistory-history (held ns)) (omega arith)
 
 -- ---- they are shards
 
@@ -127,7 +70,7 @@ formed_shards number ns ms can rises =
           id = ap (λ (v : NodeView). v.id) up.0 ∙ can.id i lt;
           horizon = raised_horizon n m time up ∙ latest n.history.horizon time most;
           valid = subst IsHistory (sym is) (IsHistory-history (with_horizon time (references_of n.history)));
-          own = takes_own (length ns) i _ _ (at_time time) (can.own i lt) up.0 tt;
+          own = takes_own (length ns) i _ _ (at_horizon time) (can.own i lt) up.0 tt;
         }
 
 -- ---- the latest horizon

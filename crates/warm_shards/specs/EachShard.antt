@@ -1,11 +1,9 @@
 -- Calls that go to each shard, from the first on, and stop where one refuses.
 use Rattle.std.specs.Prelude.{◌≡◌, ◌⊎◌, ℕ, ◌<◌, ◌≤◌, false, List, [], length}
-use Rattle.warm_history.specs.ReferenceSets.{with_horizon}
-use Rattle.warm_history.specs.Histories.{history, history_of_entries_at, references_of}
+use Rattle.warm_history.specs.Histories.{history_of_entries_at}
 use Rattle.warm_pool.specs.Calls.{FlushesNone}
 use Rattle.warm_pool.specs.Forgetting.{ForgetRefused, Forgets, MayForget}
 use Rattle.warm_pool.specs.Frames.{nth_frame}
-use Rattle.warm_pool.specs.Keeping.{KeepsBytes}
 use Rattle.warm_pool.specs.Retiring.{Emptied}
 use Rattle.warm_pool.specs.State.{IsSettled, PoolState}
 use Rattle.warm_pool.specs.View.{IsFixed, IsUnfixed, view_of}
@@ -20,6 +18,7 @@ use Rattle.warm_gossip.specs.Clauses.{Goes, OfPool, SameView}
 use Rattle.warm_gossip.specs.Engine.{KeepsKnown}
 use Rattle.warm_gossip.specs.State.{NodeState, node_view}
 use Rattle.warm_gossip.specs.Step.{IsFailed, OnPool}
+use Rattle.warm_shards.specs.Given.{IsGiven, at_horizon}
 use Rattle.warm_shards.specs.Shards.{shard_at, whole}
 
 -- each shard has changed as `change` says
@@ -123,9 +122,7 @@ pub record HasFixed (shards : List NodeState) : Type 0 where
 
 -- the horizon of the shard is this one, if that is later
 abbrev pub Rises : ℕ → NodeState → NodeState → Type 0
-Rises time old new = (node_view new
-    ≡ record (node_view old) { history = history (with_horizon time (references_of old.history)) })
-    × KeepsBytes old.pool new.pool
+Rises time = IsGiven (at_horizon time)
 
 -- the shard has restarted, but it has this horizon
 pub record HasForgotten (horizon : ℕ) (old new : NodeState) : Type 0 where

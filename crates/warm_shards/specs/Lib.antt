@@ -1,5 +1,6 @@
 pub mod Shards
 pub mod Clauses
+pub mod Given
 pub mod Digests
 pub mod Dividing
 pub mod Lending

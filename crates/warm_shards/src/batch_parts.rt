@@ -1,5 +1,5 @@
-//! The parts of a batch, one for each shard.
-ghost use Rattle.std.specs.Prelude.{◌≡◌, ◌<◌, [], map, IfOk, IfSome, IsTrue};
+//! The parts of a batch or of entries, one for each shard.
+ghost use Rattle.std.specs.Prelude.{◌≡◌, ◌<◌, [], IfOk, IfSome, IsTrue};
 ghost use Rattle.std.specs.List.{AllByRecursion};
 ghost use Rattle.warm_shards.specs.Parts.{AreShardParts};
 ghost use Rattle.warm_shards.specs.Shards.{IsShardCount, shard_of};
@@ -7,7 +7,6 @@ ghost use Rattle.warm_shards.specs.Shards.{IsShardCount, shard_of};
 use crate::shards::shard_of;
 use std::alloc::{AllocError, Global};
 use warm_pool::NamesPage;
-use warm_stamps::Reference;
 
 // Whether all items name pages of this shard.
 fn are_of<T: NamesPage>(items: &[T], count: usize, shard: usize) -> bool
@@ -45,31 +44,33 @@ pub(crate) fn only_shard<T: NamesPage>(items: &[T], count: usize) -> Option<usiz
 }
 
 // As many empty lists.
-fn empty_parts(alloc: Global, count: usize) -> Result<Vec<Vec<Reference>>, AllocError>
-    requires { IsShardCount count }
-    ensures { IfOk result (λ parts. AreShardParts count [] (map (λ part. part.items) parts.items)) }
+fn empty_parts<T: NamesPage>(alloc: Global, count: usize) -> Result<Vec<Vec<T>>, AllocError>
+    ensures { IfOk result (λ parts. AreShardParts (λ item. T.named item) count [] parts.items) }
 {
     let mut parts = Vec::with_capacity(alloc, count)?;
     for _shard in 0..count {
-        parts.push(Vec::new(alloc))?;
+        parts.push_reserved(Vec::new(alloc));
     }
     Ok(parts)
 }
 
-/// The references of a batch to the pages of each shard, in order. The batch is read once.
-pub(crate) fn parts_of(
+/// The references of a batch, or entries, by the shards of their pages: for each shard its own, in
+/// order. The items are read once.
+///
+/// `AllocError` occurs only where an allocation fails.
+pub fn parts_of<T: NamesPage + Copy>(
     alloc: Global,
-    batch: &[Reference],
+    items: &[T],
     count: usize,
-) -> Result<Vec<Vec<Reference>>, AllocError>
+) -> Result<Vec<Vec<T>>, AllocError>
     requires { IsShardCount count }
     ensures { IfOk result (λ parts.
-        AreShardParts count batch.now (map (λ part. part.items) parts.items)) }
+        AreShardParts (λ item. T.named item) count items.now parts.items) }
 {
     let mut parts = empty_parts(alloc, count)?;
-    for reference in batch {
-        let shard = shard_of(count, reference.page);
-        parts[shard].push(*reference)?;
+    for item in items {
+        let shard = shard_of(count, item.named());
+        parts[shard].push(*item)?;
     }
     Ok(parts)
 }

@@ -7,10 +7,11 @@ ghost use Rattle.warm_pool.specs.View.{IsFixed, IsUnfixed, view_of};
 ghost use Rattle.warm_pool.specs.declared.fault.PoolFault.TheVariants.{Fault, Fixed};
 ghost use Rattle.warm_shards.specs.Shards.{AreShards, whole};
 ghost use Rattle.warm_shards.specs.EachShard.{DeviceFails, ForgetIsRefused, HasFixed, HasForgotten};
-ghost use Rattle.warm_shards.specs.EachShard.{IsUnchanged, IsWritten, MayForgetEach, OfEach, OfFirst};
-ghost use Rattle.warm_shards.specs.EachShard.{RestartRefused, RestartStops, Rises, ShardForgetsPages};
-ghost use Rattle.warm_shards.specs.EachShard.{ShardRestarts, ShardSettles, ShardWriteFails};
-ghost use Rattle.warm_shards.specs.EachShard.{ShardsAreUnfixed, StopsAtShard, WriteBackStops};
+ghost use Rattle.warm_shards.specs.EachShard.{IsUnchanged, IsWritten, MayForgetEach, OfEach};
+ghost use Rattle.warm_shards.specs.EachShard.{OfFirst, RestartRefused, RestartStops, Rises};
+ghost use Rattle.warm_shards.specs.EachShard.{ShardForgetsPages, ShardRestarts, ShardSettles};
+ghost use Rattle.warm_shards.specs.EachShard.{ShardWriteFails, ShardsAreUnfixed, StopsAtShard};
+ghost use Rattle.warm_shards.specs.EachShard.{WriteBackStops};
 
 use crate::shards::Shards;
 use warm_devices::PageDevice;

@@ -30,6 +30,7 @@ mod shards;
 mod shards_of_nodes;
 
 pub use answers::fill_digests;
+pub use batch_parts::parts_of;
 pub use fault::{ShardsError, ShardsFault};
 pub use message_parts::{part_of_entries, part_of_message};
 pub use pool_calls::ShardSlot;

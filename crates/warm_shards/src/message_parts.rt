@@ -1,5 +1,5 @@
 //! The part of a message for one shard.
-ghost use Rattle.std.specs.Prelude.{◌≡◌, ◌≢◌, ◌↔◌, [], IfOk, IsTrue};
+ghost use Rattle.std.specs.Prelude.{◌≡◌, IfOk};
 ghost use Rattle.warm_frames.specs.Entries.{FitsInFrame};
 ghost use Rattle.warm_frames.specs.Limits.{entries_in};
 ghost use Rattle.warm_shards.specs.Parts.{part_of_entries, part_of_message, sender_in};
@@ -20,19 +20,6 @@ fn sender_of(message: &Message) -> ReplicaId
         Message::Digest { sender, .. } => *sender,
         Message::Want { sender, .. } => *sender,
     }
-}
-
-/// Whether an entry is of a page of the shard. Allocation-free.
-pub(crate) fn has_part(entries: &[Entry], shards: usize, shard: usize) -> bool
-    requires { IsShardCount shards }
-    ensures { IsTrue result ↔ (part_of_entries shards shard entries.now ≢ []) }
-{
-    for entry in entries {
-        if shard_of(shards, entry.page) == shard {
-            return true;
-        }
-    }
-    false
 }
 
 /// The entries of pages of the shard of this number, of this many, in order. It reads each entry

@@ -1,7 +1,7 @@
 use Rattle.std.proofs.Common.{◌<◌, ap, ◌∙◌, arith, length}
 use Rattle.warm_gossip.specs.State.{NodeState}
 use Rattle.warm_history.specs.Histories.{HistoryView}
-use Rattle.warm_shards.proofs.Absorbing.{some_shards}
+use Rattle.warm_shards.proofs.AreShardsLemmas.{some_shards}
 use Rattle.warm_shards.proofs.Calls.{read_at}
 use Rattle.warm_shards.proofs.EachShardLemmas.{restart_stops, restarted_all, settled_horizon, settled_unfixed}
 use Rattle.warm_shards.proofs.each_shard.restart_all.Goals as goal
