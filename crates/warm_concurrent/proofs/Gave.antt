@@ -10,7 +10,7 @@ use Rattle.warm_machine.specs.Runs.{operation}
 use Rattle.warm_peer.specs.Answers.{refs_in}
 use Rattle.warm_shards.specs.Parts.{part_of_batch, part_of_message}
 use Rattle.warm_shards.specs.Shards.{IsShardCount, of_shard}
-use Rattle.warm_shards.proofs.Absorbing.{some_count}
+use Rattle.warm_shards.proofs.AreShardsLemmas.{some_count}
 use Rattle.warm_shards.proofs.WholeParts.{message_part}
 use Rattle.warm_concurrent.specs.declared.call.ShardCall.{ShardCall}
 use Rattle.warm_concurrent.specs.declared.call.ShardCall.TheVariants.{Absorb, Answer, Offer, Raise}

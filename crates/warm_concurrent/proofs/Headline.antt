@@ -8,7 +8,7 @@ use Rattle.warm_turn.specs.declared.fault.Busy.{Busy}
 use Rattle.warm_machine.specs.Runs.{Runs}
 use Rattle.warm_gossip.specs.State.{NodeState}
 use Rattle.warm_shards.specs.Shards.{held, no_shard, shard_at, whole}
-use Rattle.warm_shards.proofs.Taking.{last_two}
+use Rattle.warm_shards.proofs.WholeLemmas.{last_two}
 use Rattle.warm_concurrent.specs.declared.call.ShardCall.{ShardCall}
 use Rattle.warm_concurrent.specs.declared.call.ShardCall.TheVariants.{Absorb, Answer, Change, CopyHistory, FlushDevice, ForgetPages, Look, Offer, Pin, PinFilled, PinZeroed, Raise, Read, Retire, Send, SendSince, TakeIn, Unpin, Victim, WarmList, WarmNext, WarmStep, Write, WriteBack, WritePage, WritePages, WriteSome}
 use Rattle.warm_concurrent.specs.declared.call.ShardReply.{ShardReply}

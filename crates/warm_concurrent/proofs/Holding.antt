@@ -25,7 +25,7 @@ use Rattle.warm_gossip.specs.State.{NodeState, node_view}
 use Rattle.warm_shards.specs.Laws.{BringsOwn}
 use Rattle.warm_shards.specs.Shards.{AreShards, HasPagesOf, HoldsPagesOf, HoldsShard, shard_at, shard_of}
 use Rattle.warm_shards.proofs.EngineCalls.{flushed_own, forgotten_own, page_own, retired_own, same_own, zeroed_own}
-use Rattle.warm_shards.proofs.Staying.{failures_stay, steps_stay}
+use Rattle.warm_shards.proofs.HoldsPagesLemmas.{failures_stay, steps_stay}
 use Rattle.warm_concurrent.specs.declared.call.ShardCall.{ShardCall}
 use Rattle.warm_concurrent.specs.declared.call.ShardCall.TheVariants.{Absorb, Change, Look, Pin, PinFilled, PinZeroed, TakeIn}
 use Rattle.warm_concurrent.specs.declared.call.ShardReply.{ShardReply}

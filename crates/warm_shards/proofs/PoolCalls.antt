@@ -18,7 +18,7 @@ use Rattle.warm_gossip.specs.State.{NodeState, NodeView, node_view}
 use Rattle.warm_gossip.proofs.VictimLemmas.{fixes_change, refused}
 use Rattle.warm_shards.specs.Shards.{AreShards, IsShard, shard_at, shard_of}
 use Rattle.warm_shards.proofs.Calls.{HasOnly, next_is_own, only_kept, only_put, pool_shard, read_at}
-use Rattle.warm_shards.proofs.Keeping.{still_shards}
+use Rattle.warm_shards.proofs.AreShardsLemmas.{still_shards}
 
 -- the pool alone has changed, and of its pages this is still true
 pub record OnlyPool (P : PageId → Type 0) (n m : NodeState) : Type 0 where

@@ -7,7 +7,7 @@ use Rattle.warm_devices.specs.Device.{DeviceState}
 use Rattle.warm_pool.specs.Frames.{nth_frame}
 use Rattle.warm_pool.specs.State.{IsPool, PoolState, no_device, nth_device}
 use Rattle.warm_pool.specs.View.{FrameView, IsResident, PoolView, frame_at, frame_view, view_of}
-use Rattle.warm_shards.specs.Forming.{AreOwnOf}
+use Rattle.warm_shards.specs.ShardsOfNodes.{AreOwnOf}
 use Rattle.warm_shards.specs.Shards.{HasPagesOf}
 
 abbrev no_frame : FrameView

@@ -34,6 +34,12 @@ abbrev pub JoinsAll : List NodeState → HistoryView → List NodeState → Type
 JoinsAll old other new = (pool : PoolView)
     → as_node new pool ≡ record (as_node old pool) { history = join (whole old) other }
 
+-- all shards together have taken in the references of S, at the later horizon of both, as one node
+-- does
+abbrev pub TakesInAll : List NodeState → ReferenceSet → List NodeState → Type 0
+TakesInAll old S new = (pool : PoolView) → as_node new pool
+    ≡ record (as_node old pool) { history = history (references_of (whole old) ∪ S) }
+
 -- some reference of S is to a page of this shard
 abbrev pub HasPart : ℕ → ℕ → ReferenceSet → Type 0
 HasPart count i S = (of_shard count i S).given ≢ []
