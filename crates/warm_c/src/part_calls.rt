@@ -15,11 +15,11 @@ use warm_shards::{fill_digests, part_of_message};
 
 impl OpenNode {
     /// Calls [`warm_gossip::Node::pin`], and writes the slot and the address of the page's bytes,
-    /// which stay there as [`OpenNode::lend`] says.
+    /// which stay there as [`OpenNode::bytes`] says.
     ///
     /// # Errors
     /// `Node`: the node's own. The slot and the pointer are unchanged.
-    pub fn pin_lend(
+    pub fn pin_bytes(
         &mut self,
         page: WarmPage,
         slot: &mut PinnedSlot,

@@ -12,7 +12,7 @@ use Rattle.warm_c.specs.declared.status.Refusal.{Refusal}
 use Rattle.warm_c.specs.declared.status.Refusal.TheVariants.{Node}
 use Rattle.warm_c.specs.declared.values.WarmPage.{WarmPage}
 use Rattle.warm_c.specs.FdParts.{fd_state}
-use Rattle.warm_c.specs.Filling.{NamesNext}
+use Rattle.warm_c.specs.FilledPins.{NamesNext}
 
 -- a refusal names no page
 pub next_refused : (found : ℕ) (page : WarmPage) (old new : OpenNode) (why : Refusal)

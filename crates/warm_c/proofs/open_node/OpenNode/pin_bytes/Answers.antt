@@ -1,5 +1,5 @@
 use Rattle.std.proofs.Common.{refl}
-use Rattle.warm_c.proofs.open_node.OpenNode.pin_lend.Goals as goal
+use Rattle.warm_c.proofs.open_node.OpenNode.pin_bytes.Goals as goal
 
 pub returns : goal.returns
 returns c =

@@ -1,7 +1,7 @@
 use Rattle.std.proofs.Common.{refl}
 use Rattle.std.proofs.lemmas.Result.{err_from_is_err_and}
 use Rattle.warm_c.proofs.EngineRefusals.{forget_refused}
-use Rattle.warm_c.proofs.open_node.OpenNode.forget.Goals as goal
+use Rattle.warm_c.proofs.open_node.OpenNode.forget_pages.Goals as goal
 
 pub returns-in_err-forget_pages : goal.returns-in_err-forget_pages
 returns-in_err-forget_pages c =

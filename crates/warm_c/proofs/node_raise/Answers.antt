@@ -1,8 +1,8 @@
 use Rattle.std.proofs.Common.{rules, Ok, to_z, of_z, w32}
 use Rattle.warm_c.specs.Calls.{Raises}
 use Rattle.warm_c.specs.Handles.{Surely}
-use Rattle.warm_c.proofs.Endings.{called}
-use Rattle.warm_c.proofs.node_horizon.Goals as goal
+use Rattle.warm_c.proofs.HandleLemmas.{called}
+use Rattle.warm_c.proofs.node_raise.Goals as goal
 
 pub returns-clause-called : goal.returns-clause-called
 returns-clause-called c =

@@ -2,7 +2,7 @@ use Rattle.std.proofs.Common.{refl}
 use Rattle.std.proofs.lemmas.Result.{err_from_is_err_and}
 use Rattle.warm_gossip.proofs.EngineLemmas.{same_view}
 use Rattle.warm_c.proofs.EngineRefusals.{flush_refused}
-use Rattle.warm_c.proofs.open_node.OpenNode.flush.Goals as goal
+use Rattle.warm_c.proofs.open_node.OpenNode.flush_device.Goals as goal
 
 pub returns-in_err-flush_device : goal.returns-in_err-flush_device
 returns-in_err-flush_device c =

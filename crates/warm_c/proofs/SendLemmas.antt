@@ -12,7 +12,7 @@ use Rattle.std_alloc.proofs.SendSync.{lies, quiet}
 use Rattle.std.specs.Prelude.{Option, None, Some}
 use Rattle.std.specs.declared.alloc.Global.{Global}
 use Rattle.std.specs.contracts.impls.GlobalAllocator.TheImpl.{ghosts}
-use Rattle.warm_c.specs.Owning.{pointer_owns}
+use Rattle.warm_c.specs.Ownership.{pointer_owns}
 use Rattle.warm_c.specs.declared.open_node.OpenNode.{OpenNode}
 use Rattle.warm_c.specs.contracts.open_node.OpenNode as node
 use Rattle.warm_c.proofs.open_node.OpenNode.TheSendSync.{the_send}
