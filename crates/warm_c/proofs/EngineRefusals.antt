@@ -9,13 +9,13 @@ use Rattle.warm_gossip.specs.declared.fault.NodeFault.TheVariants.{Memory, Pool,
 use Rattle.warm_gossip.specs.Clauses.{Goes, OfPool}
 use Rattle.warm_gossip.specs.Engine.{KeepsKnown}
 use Rattle.warm_c.specs.declared.open_node.OpenNode.{OpenNode}
-use Rattle.warm_c.specs.declared.status.Refusal.TheVariants.{Node}
-use Rattle.warm_c.specs.declared.values.PinnedSlot.{PinnedSlot}
-use Rattle.warm_c.specs.declared.values.WarmPage.{WarmPage}
+use Rattle.warm_c_base.specs.declared.status.Refusal.TheVariants.{Node}
+use Rattle.warm_c_base.specs.declared.values.PinnedSlot.{PinnedSlot}
+use Rattle.warm_c_base.specs.declared.values.WarmPage.{WarmPage}
 use Rattle.warm_c.specs.Calls.{SameDevices}
 use Rattle.warm_c.specs.Engine.{FlushesDevice, ForgetsPages, NodeWritesBackPage, PinsZeroed, SameButPool}
 use Rattle.warm_c.specs.FilledPins.{PinsFilled}
-use Rattle.warm_c.specs.Values.{page_of_c}
+use Rattle.warm_c_base.specs.Values.{page_of_c}
 
 -- the pool alone has changed
 same_but_pool : (old new : OpenNode) → KeepsKnown old.node new.node → SameDevices old new

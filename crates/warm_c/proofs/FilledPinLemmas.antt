@@ -6,12 +6,12 @@ use Rattle.warm_pool.specs.Filling.{AreFromDevice}
 use Rattle.warm_pool.proofs.Fills.{given_unsure}
 use Rattle.warm_stamps.specs.declared.PageId.{PageId}
 use Rattle.warm_gossip.specs.declared.fault.NodeFault.TheVariants.{Memory}
-use Rattle.warm_c.specs.declared.fd_device.FdDevice.{FdDevice}
+use Rattle.warm_c_base.specs.declared.fd_device.FdDevice.{FdDevice}
 use Rattle.warm_c.specs.declared.open_node.OpenNode.{OpenNode}
-use Rattle.warm_c.specs.declared.status.Refusal.{Refusal}
-use Rattle.warm_c.specs.declared.status.Refusal.TheVariants.{Node}
-use Rattle.warm_c.specs.declared.values.WarmPage.{WarmPage}
-use Rattle.warm_c.specs.FdParts.{fd_state}
+use Rattle.warm_c_base.specs.declared.status.Refusal.{Refusal}
+use Rattle.warm_c_base.specs.declared.status.Refusal.TheVariants.{Node}
+use Rattle.warm_c_base.specs.declared.values.WarmPage.{WarmPage}
+use Rattle.warm_c_base.specs.FdParts.{fd_state}
 use Rattle.warm_c.specs.FilledPins.{NamesNext}
 
 -- a refusal names no page

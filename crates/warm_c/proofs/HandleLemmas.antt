@@ -3,10 +3,10 @@ use Rattle.std.proofs.Common.{◌≡◌, ◌↔◌, ℕ, Option, Some, None, sym
 use Rattle.std.specs.Prelude.{ℤ, pos}
 use Rattle.warm_c.specs.declared.open_node.OpenNode.{OpenNode}
 use Rattle.warm_c.specs.declared.open_peer.OpenPeer.{OpenPeer}
-use Rattle.warm_c.specs.declared.status.Refusal.{Refusal}
-use Rattle.warm_c.specs.Statuses.{code_of, status_of}
+use Rattle.warm_c_base.specs.declared.status.Refusal.{Refusal}
+use Rattle.warm_c_base.specs.Statuses.{code_of, status_of}
 use Rattle.warm_c.specs.Calls.{Ending}
-use Rattle.warm_c.specs.Values.{IsBool}
+use Rattle.warm_c_base.specs.Values.{IsBool}
 use Rattle.warm_c.specs.Handles.{OpenRequest, OnHandle, OpenRefused, Opens}
 use Rattle.warm_c.specs.PartCalls.{OnTwoHandles}
 use Rattle.warm_c.specs.Peers.{OpensPeer, PeerRefused}

@@ -19,15 +19,15 @@ use Rattle.warm_gossip.specs.declared.call.Reply.TheVariants.{Page, Pages, Loade
 use Rattle.warm_gossip.specs.declared.fault.NodeFault.TheVariants.{Memory}
 use Rattle.warm_gossip.specs.Clauses.{DevicesAfter, Goes, Joins, SameView}
 use Rattle.warm_c.specs.declared.open_node.OpenNode.{OpenNode}
-use Rattle.warm_c.specs.declared.status.Refusal.{Refusal}
-use Rattle.warm_c.specs.declared.status.Refusal.TheVariants.{Node, BufferTooSmall, BadReplica}
-use Rattle.warm_c.specs.declared.status.Refusal.TheVariants.{Dump}
-use Rattle.warm_c.specs.declared.values.PinnedSlot.{PinnedSlot}
-use Rattle.warm_c.specs.declared.values.WarmPage.{WarmPage}
-use Rattle.warm_c.specs.declared.values.WarmReference.{WarmReference}
-use Rattle.warm_c.specs.declared.values.WarmSlot.{WarmSlot}
-use Rattle.warm_c.specs.Values.{c_page, IsBool, IsOptionalPage, page_of_c, pinned_slot, reference_of}
-use Rattle.warm_c.specs.Values.{slot_of_c, with_start}
+use Rattle.warm_c_base.specs.declared.status.Refusal.{Refusal}
+use Rattle.warm_c_base.specs.declared.status.Refusal.TheVariants.{Node, BufferTooSmall, BadReplica}
+use Rattle.warm_c_base.specs.declared.status.Refusal.TheVariants.{Dump}
+use Rattle.warm_c_base.specs.declared.values.PinnedSlot.{PinnedSlot}
+use Rattle.warm_c_base.specs.declared.values.WarmPage.{WarmPage}
+use Rattle.warm_c_base.specs.declared.values.WarmReference.{WarmReference}
+use Rattle.warm_c_base.specs.declared.values.WarmSlot.{WarmSlot}
+use Rattle.warm_c_base.specs.Values.{c_page, IsBool, IsOptionalPage, page_of_c, pinned_slot}
+use Rattle.warm_c_base.specs.Values.{reference_of, slot_of_c, with_start}
 
 -- what a call of the library ends with
 abbrev pub Ending : Type 0

@@ -7,13 +7,13 @@ use Rattle.warm_pool.specs.State.{nth_device}
 use Rattle.warm_pool.specs.View.{view_of}
 use Rattle.warm_pool.specs.WritingSome.{dirty_count}
 use Rattle.warm_gossip.specs.declared.fault.NodeFault.TheVariants.{Pool}
-use Rattle.warm_c.specs.declared.counters.WarmCounters.{WarmCounters}
-use Rattle.warm_c.specs.declared.counters.WarmDeviceCounters.{WarmDeviceCounters}
-use Rattle.warm_c.specs.declared.counters.WarmFailure.{WarmFailure}
+use Rattle.warm_c_base.specs.declared.counters.WarmCounters.{WarmCounters}
+use Rattle.warm_c_base.specs.declared.counters.WarmDeviceCounters.{WarmDeviceCounters}
+use Rattle.warm_c_base.specs.declared.counters.WarmFailure.{WarmFailure}
 use Rattle.warm_c.specs.declared.open_node.OpenNode.{OpenNode}
-use Rattle.warm_c.specs.declared.status.Refusal.TheVariants.{Node}
+use Rattle.warm_c_base.specs.declared.status.Refusal.TheVariants.{Node}
 use Rattle.warm_c.specs.Calls.{Ending}
-use Rattle.warm_c.specs.Counters.{IsOptionalFailure}
+use Rattle.warm_c_base.specs.Counters.{IsOptionalFailure}
 
 -- So many pages are resident and dirty, and the handle is as it was. Of hits, misses, evictions and
 -- pages written back no clause says anything: what a pool counts is no part of its state.

@@ -13,11 +13,11 @@ use Rattle.warm_pool.specs.Zeroing.{LeavesUnread, PinnedZeroed, TakesZeroed, Zer
 use Rattle.warm_gossip.specs.declared.fault.NodeFault.TheVariants.{Pool}
 use Rattle.warm_gossip.specs.Clauses.{SameView}
 use Rattle.warm_c.specs.declared.open_node.OpenNode.{OpenNode}
-use Rattle.warm_c.specs.declared.status.Refusal.TheVariants.{Node}
-use Rattle.warm_c.specs.declared.values.PinnedSlot.{PinnedSlot}
-use Rattle.warm_c.specs.declared.values.WarmPage.{WarmPage}
+use Rattle.warm_c_base.specs.declared.status.Refusal.TheVariants.{Node}
+use Rattle.warm_c_base.specs.declared.values.PinnedSlot.{PinnedSlot}
+use Rattle.warm_c_base.specs.declared.values.WarmPage.{WarmPage}
 use Rattle.warm_c.specs.Calls.{Ending, SameDevices}
-use Rattle.warm_c.specs.Values.{IsBool, IsOptionalDirty, page_of_c, pinned_slot}
+use Rattle.warm_c_base.specs.Values.{IsBool, IsOptionalDirty, page_of_c, pinned_slot}
 
 -- the id, the history and the devices that the handle was given are as they were
 pub record SameButPool (old new : OpenNode) : Type 0 where

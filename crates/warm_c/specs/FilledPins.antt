@@ -15,11 +15,11 @@ use Rattle.warm_gossip.specs.Clauses.{Goes}
 use Rattle.warm_gossip.specs.State.{node_view}
 use Rattle.warm_gossip.specs.Step.{IsNextWarm}
 use Rattle.warm_c.specs.declared.open_node.OpenNode.{OpenNode}
-use Rattle.warm_c.specs.declared.status.Refusal.TheVariants.{NewPool, Node}
-use Rattle.warm_c.specs.declared.values.PinnedSlot.{PinnedSlot}
-use Rattle.warm_c.specs.declared.values.WarmPage.{WarmPage}
+use Rattle.warm_c_base.specs.declared.status.Refusal.TheVariants.{NewPool, Node}
+use Rattle.warm_c_base.specs.declared.values.PinnedSlot.{PinnedSlot}
+use Rattle.warm_c_base.specs.declared.values.WarmPage.{WarmPage}
 use Rattle.warm_c.specs.Calls.{Ending, SameDevices}
-use Rattle.warm_c.specs.Values.{IsOptionalPage, page_of_c, pinned_slot}
+use Rattle.warm_c_base.specs.Values.{IsOptionalPage, page_of_c, pinned_slot}
 
 -- no device was read, and none was flushed
 pub record CallsNone (old new : OpenNode) : Type 0 where

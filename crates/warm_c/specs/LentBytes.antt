@@ -6,11 +6,11 @@ use Rattle.warm_pool.specs.View.{view_of, Holds}
 use Rattle.warm_gossip.specs.Lending.{relent_node}
 use Rattle.warm_gossip.specs.declared.fault.NodeFault.TheVariants.{StaleSlot}
 use Rattle.warm_c.specs.declared.open_node.OpenNode.{OpenNode}
-use Rattle.warm_c.specs.declared.status.Refusal.{Refusal}
-use Rattle.warm_c.specs.declared.status.Refusal.TheVariants.{Node}
-use Rattle.warm_c.specs.declared.values.WarmSlot.{WarmSlot}
+use Rattle.warm_c_base.specs.declared.status.Refusal.{Refusal}
+use Rattle.warm_c_base.specs.declared.status.Refusal.TheVariants.{Node}
+use Rattle.warm_c_base.specs.declared.values.WarmSlot.{WarmSlot}
 use Rattle.warm_c.specs.Calls.{Ending, SameDevices}
-use Rattle.warm_c.specs.Values.{slot_of_c}
+use Rattle.warm_c_base.specs.Values.{slot_of_c}
 
 -- the slot does not hold its page, and the pointer is as it was
 abbrev pub LendRefused : WarmSlot → Ptr → Ptr → OpenNode → Refusal → Type 0

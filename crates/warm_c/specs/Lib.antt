@@ -1,9 +1,7 @@
 pub mod Calls
 pub mod CountCalls
-pub mod Counters
 pub mod Devices
 pub mod Engine
-pub mod FdParts
 pub mod FilledPins
 pub mod FrameParts
 pub mod Handles
@@ -13,5 +11,3 @@ pub mod PartCalls
 pub mod Parts
 pub mod Peers
 pub mod Since
-pub mod Statuses
-pub mod Values

@@ -3,16 +3,15 @@ ghost use Rattle.std.specs.Prelude.{◌≡◌, ◌↔◌, IfErr, IfOk, IsTrue};
 ghost use Rattle.warm_c.specs.Engine.{FlushesDevice, ForgetsPages, NodeWritesBackPage, PinsZeroed};
 ghost use Rattle.warm_c.specs.Engine.{SaysMayForget};
 ghost use Rattle.warm_c.specs.FilledPins.{PinsFilled};
-ghost use Rattle.warm_c.specs.Values.{page_of_c};
-ghost use Rattle.warm_c.specs.declared.status.Refusal.TheVariants.{Node};
+ghost use Rattle.warm_c_base.specs.Values.{page_of_c};
+ghost use Rattle.warm_c_base.specs.declared.status.Refusal.TheVariants.{Node};
 ghost use Rattle.warm_pool.specs.WritingSome.{IsDirty, IsNextDirty};
 ghost use Rattle.warm_gossip.specs.State.{node_view};
 ghost use Rattle.warm_gossip.specs.Step.{IsNextWarm};
 ghost use Rattle.warm_gossip.specs.declared.fault.NodeFault.TheVariants.{Memory};
 
 use crate::open_node::OpenNode;
-use crate::status::Refusal;
-use crate::values::{PinnedSlot, WarmPage, c_bool};
+use warm_c_base::{PinnedSlot, Refusal, WarmPage, c_bool};
 use warm_pool::{DirtyFrame, NewPoolFault};
 use warm_stamps::PageId;
 

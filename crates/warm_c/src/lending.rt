@@ -4,8 +4,7 @@ ghost use Rattle.std.specs.Ptr.{as_ptr};
 ghost use Rattle.warm_c.specs.LentBytes.{Lends, LendsMut};
 
 use crate::open_node::OpenNode;
-use crate::status::Refusal;
-use crate::values::WarmSlot;
+use warm_c_base::{Refusal, WarmSlot};
 use warm_gossip::NodeFault;
 
 // Returns the address of the first of these bytes.

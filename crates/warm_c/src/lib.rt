@@ -16,8 +16,9 @@
 //! - [`node_open`] and [`node_close`] create and drop the node. Each of the other functions that
 //!   take a handle returns 64 on a closed one, and changes nothing.
 //!
-//! c/fd_calls.c has what is not proved: the calls of the system on the descriptors, which
-//! `descriptor` asks for. c/heap.c, where its memory is from, is not proved either.
+//! Devices, files, and what crosses to C by value are of `warm_c_base`. c/fd_calls.c has what is not
+//! proved: the calls of the system on the descriptors. c/heap.c, where its memory is from, is not
+//! proved either.
 //!
 //! Nothing is undefined for any handle, slot or length, as long as the caller keeps what the header
 //! asks: a handle that was all zeros before its first call, and that only these functions change;
@@ -37,19 +38,14 @@ ghost use Rattle.warm_c.specs.FilledPins.{NamesNext, PinsFilled};
 ghost use Rattle.warm_c.specs.Handles.{OnHandle, Opens, Surely, open_request};
 ghost use Rattle.warm_c.specs.LentBytes.{Lends, LendsMut};
 ghost use Rattle.warm_c.specs.Since.{SendsSince, send_buffers};
-ghost use Rattle.warm_c.specs.Statuses.{status_of};
-ghost use Rattle.warm_c.specs.Values.{page_if};
+ghost use Rattle.warm_c_base.specs.Statuses.{status_of};
+ghost use Rattle.warm_c_base.specs.Values.{page_if};
 
 mod called;
 mod count_calls;
-pub mod counters;
-pub mod descriptor;
 mod device_calls;
-pub mod device_file;
 mod dump_calls;
-pub mod dump_file;
 mod engine_calls;
-pub mod fd_device;
 mod frame_calls;
 mod frame_parts;
 pub mod handle;
@@ -69,20 +65,16 @@ pub mod peer_pointer;
 mod pool_calls;
 pub mod raw_box;
 pub mod shard_parts;
-pub mod status;
-pub mod values;
 
 use crate::called::{closed, on_open, put_back};
-use crate::counters::{WarmCounters, WarmDeviceCounters, WarmFailure};
-use crate::descriptor::Descriptor;
 use crate::handle::Handle;
 use crate::open_node::OpenNode;
 use crate::opening::open;
-use crate::status::{Refusal, status_of};
-use crate::values::{
-    PinnedSlot, WarmDevice, WarmPage, WarmReference, WarmSlot, c_bool, page_if, put_dirty, put_page,
-};
 use std::alloc::Global;
+use warm_c_base::{
+    Descriptor, PinnedSlot, Refusal, WarmCounters, WarmDevice, WarmDeviceCounters, WarmFailure,
+    WarmPage, WarmReference, WarmSlot, c_bool, page_if, put_dirty, put_page, status_of,
+};
 use warm_gossip::NodeFault;
 
 /// Opens a closed handle: creates a node of this replica, with a pool of `frames` empty frames over

@@ -7,9 +7,8 @@ use crate::lending::address_of;
 use crate::open_node::OpenNode;
 use crate::open_peer::OpenPeer;
 use crate::shard_parts::{check_part, entries_of_shard};
-use crate::status::Refusal;
-use crate::values::{PinnedSlot, WarmPage};
 use std::alloc::Global;
+use warm_c_base::{PinnedSlot, Refusal, WarmPage};
 use warm_frames::{Message, decode};
 use warm_shards::{fill_digests, part_of_message};
 

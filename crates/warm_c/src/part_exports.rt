@@ -15,9 +15,8 @@ use crate::frame_parts::{
 };
 use crate::handle::Handle;
 use crate::peer_handle::PeerHandle;
-use crate::status::status_of;
-use crate::values::{PinnedSlot, WarmDevice, WarmPage};
 use std::alloc::Global;
+use warm_c_base::{PinnedSlot, WarmDevice, WarmPage, status_of};
 
 /// Pins a page as [`crate::node_pin`] does, and writes the address of its bytes, to be read.
 ///

@@ -5,11 +5,10 @@ ghost use Rattle.warm_gossip.specs.declared.call.Call.TheVariants.{Victim, WarmS
 ghost use Rattle.warm_gossip.specs.declared.call.Reply.TheVariants.{Loaded, Page};
 ghost use Rattle.warm_c.specs.Calls.{Pins, ReadsSlot, RefusedByNode, Replies, Unpins};
 ghost use Rattle.warm_c.specs.Calls.{Writes};
-ghost use Rattle.warm_c.specs.Values.{page_of_c};
+ghost use Rattle.warm_c_base.specs.Values.{page_of_c};
 
 use crate::open_node::OpenNode;
-use crate::status::Refusal;
-use crate::values::{PinnedSlot, WarmPage, WarmSlot};
+use warm_c_base::{PinnedSlot, Refusal, WarmPage, WarmSlot};
 use warm_stamps::PageId;
 
 impl OpenNode {
