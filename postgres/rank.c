@@ -310,11 +310,14 @@ rank_send_batch(int i)
 	rank_clear_slot(i, true);
 }
 
-/* How many pages are to be kept warm.  The smallest pools have no room for it. */
+/*
+ * How many pages are to be warm: as many as there are buffers, while one is free.  The smallest
+ * pools have no room for it.
+ */
 static Size
 rank_most_wanted(void)
 {
-	double		fraction = sp_stats.is_warming ? 1.0 : sp_fraction;
+	double		fraction = sp_fraction > 0 && have_free_buffer() ? 1.0 : sp_fraction;
 
 	return Min((Size) (fraction * NBuffers), (Size) Max(NBuffers - BUFFERS_OF_REPLAY, 0));
 }
@@ -379,23 +382,26 @@ rank_find_buffers(void)
 	}
 }
 
-/* Raises the usage count of a buffer, where it has that page still. */
+/*
+ * Raises the usage count of a buffer from 0, where it has that page still.  More would keep a page
+ * that nobody uses after a takeover through several turns of the clock.
+ */
 static void
-rank_touch_buffer(int buffer, const SpPage *page, uint32 usage)
+rank_touch_buffer(int buffer, const SpPage *page)
 {
 	BufferDesc *descriptor = GetBufferDescriptor(buffer);
 	const BufferTag *tag = &descriptor->tag;
 	uint32		state = pg_atomic_read_u32(&descriptor->state);
 
-	if (BUF_STATE_GET_USAGECOUNT(state) >= usage)
+	if (BUF_STATE_GET_USAGECOUNT(state) > 0)
 		return;
 	state = LockBufHdr(descriptor);
-	if (BUF_STATE_GET_USAGECOUNT(state) < usage && (state & BM_VALID) != 0 &&
+	if (BUF_STATE_GET_USAGECOUNT(state) == 0 && (state & BM_VALID) != 0 &&
 		tag->blockNum == page->block && TagFile(tag) == page->file &&
 		tag->forkNum == page->device.fork && TagDatabase(tag) == page->device.database &&
 		TagSpace(tag) == page->device.space)
 	{
-		state += (usage - BUF_STATE_GET_USAGECOUNT(state)) * BUF_USAGECOUNT_ONE;
+		state += BUF_USAGECOUNT_ONE;
 		sp_stats.pages_touched++;
 	}
 	UnlockBufHdr(descriptor, state);
@@ -409,7 +415,6 @@ static void
 rank_visit_pages(void)
 {
 	Size		most = rank_most_wanted();
-	Size		part = Min(most, listed_count) / 4;
 	Size		wanted = 0;
 	Oid			resident = InvalidOid;
 
@@ -428,8 +433,7 @@ rank_visit_pages(void)
 			if (OidIsValid(page.device.database))
 				resident = page.device.database;
 			if (sp_load && !sp_stats.is_warming)
-				rank_touch_buffer(buffers[i] - 1, &page,
-								  wanted < part ? 3 : wanted < part * 2 ? 2 : 1);
+				rank_touch_buffer(buffers[i] - 1, &page);
 		}
 		else if (rank_is_unloadable(&page))
 		{

@@ -3,7 +3,8 @@
  *		References, from the buffer descriptors of a primary.
  *
  * A page is referenced at most once a sample, which is LRU-2's correlated reference period.
- * DESIGN.md says when, and why a count at its greatest is a reference once a minute.
+ * DESIGN.md says when, why a page that comes in is not referenced, and why one whose count is at its
+ * greatest is, once a minute.
  */
 #include "postgres.h"
 
@@ -72,19 +73,16 @@ sample_buffer(int i, uint64 time, bool saturated)
 	uint64		before = seen[i];
 	uint64		mark = SEEN_NONE;
 	warm_page	page;
-	bool		is_new, is_hotter;
+	bool		is_hotter;
 
 	/* Pages of unlogged relations are not on a standby. */
 	if (sp_look(i, &tag, &state) && (state & BM_PERMANENT) != 0)
 	{
 		mark = hash_bytes_extended((const unsigned char *) &tag, sizeof tag, 0);
 		mark = (mark & ~SEEN_NONE) | BUF_STATE_GET_USAGECOUNT(state);
-		/* While a primary loads pages, one that comes in is not referenced. */
-		is_new = !sp_stats.is_warming &&
-			((before ^ mark) > SEEN_NONE || (before & SEEN_NONE) == SEEN_NONE);
 		is_hotter = ((before ^ mark) <= SEEN_NONE && mark > before) ||
 			(saturated && BUF_STATE_GET_USAGECOUNT(state) == BM_MAX_USAGE_COUNT);
-		if (!is_first && (is_new || is_hotter) && sp_page_of(&tag, true, &page))
+		if (!is_first && is_hotter && sp_page_of(&tag, true, &page))
 			sp_reference(page, time);
 	}
 	seen[i] = mark;

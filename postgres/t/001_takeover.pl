@@ -39,7 +39,12 @@ $standby->start;
 my $is_resident = q(select count(*) >= 400 from pg_buffercache
   where relfilenode = pg_relation_filenode('hot') and relforknumber = 0);
 
-$primary->safe_psql('postgres', 'select count(*) from hot');
+# A page is referenced if it is used again while it is in the buffers.
+ok( $primary->poll_query_until(
+		'postgres',
+		q(select count(*) > 0 and (select known >= 400 from pg_stat_standby_prewarm)
+		  from hot)),
+	'a primary knows what is read again');
 ok($standby->poll_query_until('postgres', $is_resident),
 	'a standby loads what its primary reads');
 ok( $standby->poll_query_until(
