@@ -134,7 +134,7 @@ history_hint(int status)
 		case SP_BAD_VERSION:
 			return "Upgrade this server to the version of its primary.";
 		case SP_OTHER_DIRECTORY:
-			return "Find out whether two servers were primaries at the same time.";
+			return "Unless the primary was reset, two servers were primaries at the same time.";
 		case SP_LATE_MESSAGE:
 		case WARM_LATE_STAMP:
 		case WARM_LATE_HORIZON:

@@ -59,7 +59,7 @@ COMMENT ON COLUMN @extschema@.pg_stat_standby_prewarm.refused IS
 COMMENT ON COLUMN @extschema@.pg_stat_standby_prewarm.refused_by_name IS
     'the same by their names';
 COMMENT ON COLUMN @extschema@.pg_stat_standby_prewarm.unloadable IS
-    'wanted pages that are left alone: their file is gone, shorter or locked, or reading them failed';
+    'hot pages that are left alone, and not wanted: their database or file is gone, the file is shorter or locked, or reading them failed';
 COMMENT ON COLUMN @extschema@.pg_stat_standby_prewarm.loaders IS
     'loaders that run now';
 COMMENT ON COLUMN @extschema@.pg_stat_standby_prewarm.pages_read IS
