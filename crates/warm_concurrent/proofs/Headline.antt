@@ -9,18 +9,18 @@ use Rattle.warm_machine.specs.Runs.{Runs}
 use Rattle.warm_gossip.specs.State.{NodeState}
 use Rattle.warm_shards.specs.Shards.{held, no_shard, shard_at, whole}
 use Rattle.warm_shards.proofs.Taking.{last_two}
-use Rattle.warm_concurrent.specs.declared.call.ShardCall.{ShardCall}
-use Rattle.warm_concurrent.specs.declared.call.ShardCall.TheVariants.{Absorb, Answer, Change, CopyHistory, FlushDevice, ForgetPages, Look, Offer, Pin, PinFilled, PinZeroed, Raise, Read, Retire, Send, SendSince, TakeIn, Unpin, Victim, WarmList, WarmNext, WarmStep, Write, WriteBack, WritePage, WritePages, WriteSome}
-use Rattle.warm_concurrent.specs.declared.call.ShardReply.{ShardReply}
-use Rattle.warm_concurrent.specs.declared.call.ShardReply.TheVariants.{Done, Foreign, Kept}
+use Rattle.warm_shard_machine.specs.declared.call.ShardCall.{ShardCall}
+use Rattle.warm_shard_machine.specs.declared.call.ShardCall.TheVariants.{Absorb, Answer, Change, CopyHistory, FlushDevice, ForgetPages, Look, Offer, Pin, PinFilled, PinZeroed, Raise, Read, Retire, Send, SendSince, TakeIn, Unpin, Victim, WarmList, WarmNext, WarmStep, Write, WriteBack, WritePage, WritePages, WriteSome}
+use Rattle.warm_shard_machine.specs.declared.call.ShardReply.{ShardReply}
+use Rattle.warm_shard_machine.specs.declared.call.ShardReply.TheVariants.{Done, Foreign, Kept}
 use Rattle.warm_concurrent.specs.Attached.{Known, ShardPass, ShardTurn, known_of, shard_turn}
-use Rattle.warm_concurrent.specs.Given.{IsLog, Log, SharedIsOfGiven, gave, gave_call, gave_together, log_at}
-use Rattle.warm_concurrent.specs.Laws.{asked_steps, given_by_steps, given_to_shard, node_steps}
+use Rattle.warm_concurrent.specs.Given.{IsLog, SharedIsOfGiven, gave, gave_call, gave_together, log_at}
+use Rattle.warm_shard_machine.specs.Laws.{Log, asked_steps, given_by_steps, given_to_shard, node_steps}
 use Rattle.warm_concurrent.specs.Opening.{AreClosed, ClosesShard, openings, shards_over, state_at}
-use Rattle.warm_concurrent.specs.ShardSteps.{ShardState, ShardStep, asked_of}
-use Rattle.warm_concurrent.proofs.Holding.{node_at}
-use Rattle.warm_concurrent.proofs.LawsHold.{given_after, shard_is_of_given}
-use Rattle.warm_concurrent.proofs.Numbering.{from_long, opening_at}
+use Rattle.warm_shard_machine.specs.ShardSteps.{ShardState, ShardStep, asked_of}
+use Rattle.warm_concurrent.proofs.HoldsShardLemmas.{node_at}
+use Rattle.warm_shard_machine.proofs.NodeStepLemmas.{given_after, shard_is_of_given}
+use Rattle.warm_concurrent.proofs.NumberedLemmas.{from_long, opening_at}
 use Rattle.warm_concurrent.proofs.Places.{push_each}
 use Rattle.warm_concurrent.proofs.Sets.{union_none}
 

@@ -4,8 +4,8 @@ use Rattle.warm_stamps.specs.declared.PageId.{PageId}
 use Rattle.warm_history.specs.Histories.{HistoryView, history_of_entries, join, references_of}
 use Rattle.warm_rank.specs.Ranking.{hottest_pages}
 use Rattle.warm_gossip.specs.declared.fault.NodeFault.TheVariants.{Memory}
-use Rattle.warm_concurrent.specs.declared.call.ShardCall.TheVariants.{CopyHistory}
-use Rattle.warm_concurrent.specs.declared.call.ShardReply.TheVariants.{Copied}
+use Rattle.warm_shard_machine.specs.declared.call.ShardCall.TheVariants.{CopyHistory}
+use Rattle.warm_shard_machine.specs.declared.call.ShardReply.TheVariants.{Copied}
 use Rattle.warm_concurrent.specs.declared.fault.SharedFault.{SharedFault}
 use Rattle.warm_concurrent.specs.declared.fault.SharedFault.TheVariants.{Node}
 use Rattle.warm_concurrent.specs.Answering.{FirstGave}

@@ -1,5 +1,3 @@
-pub mod ToldDevices
-pub mod ShardSteps
 pub mod Attached
 pub mod Clauses
 pub mod Faults
@@ -14,6 +12,6 @@ pub mod Copying
 pub mod Asking
 pub mod Retiring
 pub mod Filling
+pub mod Looking
 pub mod Gossip
-pub mod Visits
 pub mod Pins

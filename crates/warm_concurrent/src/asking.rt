@@ -8,7 +8,6 @@ ghost use Rattle.warm_concurrent.specs.Copying.{CopyFails};
 use crate::copying::copy_all;
 use crate::fault::SharedFault;
 use crate::history_calls::Stopped;
-use crate::shard::Shard;
 use crate::shared::{Attached, SharedShards};
 use std::alloc::{AllocError, Global};
 use std::sync::Wait;
@@ -18,6 +17,7 @@ use warm_gossip::NodeFault;
 use warm_history::History;
 use warm_history::laws::prove_is_history;
 use warm_peer::Peer;
+use warm_shard_machine::Shard;
 use warm_stamps::ReplicaId;
 use warm_turn::{Pass, Turn};
 

@@ -5,59 +5,22 @@ ghost use Rattle.warm_rank.specs.Ranking.{hottest_pages};
 ghost use Rattle.warm_concurrent.specs.Attached.{AreOf, AreTurns};
 ghost use Rattle.warm_concurrent.specs.Clauses.{CallEnds};
 ghost use Rattle.warm_concurrent.specs.Copying.{CopiesAll, CopyFails, ListsAll};
-ghost use Rattle.warm_concurrent.specs.declared.call.ShardCall.TheVariants.{CopyHistory};
-ghost use Rattle.warm_concurrent.specs.declared.call.ShardReply.TheVariants.{Copied};
+ghost use Rattle.warm_shard_machine.specs.declared.call.ShardCall.TheVariants.{CopyHistory};
+ghost use Rattle.warm_shard_machine.specs.declared.call.ShardReply.TheVariants.{Copied};
 
-use crate::call::{ShardCall, ShardReply};
 use crate::fault::SharedFault;
 use crate::history_calls::Stopped;
-use crate::shard::Shard;
 use crate::shared::{Attached, SharedShards, call_shard};
 use std::alloc::{AllocError, Global};
-use std::marker::Model;
 use std::sync::Wait;
 use warm_devices::PageDevice;
 use warm_gossip::NodeFault;
 use warm_history::History;
 use warm_history::laws::prove_is_history;
 use warm_rank::warm_list;
+use warm_shard_machine::{Shard, ShardCall, ShardReply};
 use warm_stamps::PageList;
 use warm_turn::{Pass, Turn};
-
-/// A history in a heap box, so that no reply has the room for a history in it. Contracts see the
-/// history.
-#[derive(Drop)]
-pub struct BoxedHistory {
-    history: Box<History>,
-}
-
-impl Model for BoxedHistory {
-    ghost use Rattle.warm_history.specs.Histories.{HistoryView};
-
-    ghost Value = { HistoryView };
-
-    ghost view = { λ boxed. boxed.history.value };
-}
-
-impl BoxedHistory {
-    /// A copy of the history, in a box.
-    ///
-    /// `AllocError` occurs only where an allocation fails.
-    pub fn copy_of(alloc: Global, history: &History) -> Result<BoxedHistory, AllocError>
-        ensures { IfOk result (λ boxed. boxed ≡ history.now) }
-    {
-        let copy = history.copy()?;
-        let history = Box::new(alloc, copy)?;
-        Ok(BoxedHistory { history })
-    }
-
-    /// Borrows the history. Allocation-free.
-    pub fn as_history(&self) -> &History
-        ensures { result.now ≡ self.now }
-    {
-        &self.history
-    }
-}
 
 // Has one shard copy its history.
 fn copy_in<D: PageDevice + Send, R: Wait>(

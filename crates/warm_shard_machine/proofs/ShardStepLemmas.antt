@@ -1,0 +1,43 @@
+-- What the steps of a shard keep.
+use Rattle.std.proofs.Common.{◌≡◌, List, [], ◌∷◌, ◌++◌, refl, sym, ap, subst, ◌∙◌}
+use Rattle.warm_machine.specs.declared.operation.Operation.{Operation}
+use Rattle.warm_machine.specs.Runs.{Runs}
+use Rattle.warm_shard_machine.specs.declared.call.ShardCall.{ShardCall}
+use Rattle.warm_shard_machine.specs.declared.call.ShardReply.{ShardReply}
+use Rattle.warm_shard_machine.specs.declared.call.ShardReply.TheVariants.{Foreign}
+use Rattle.warm_shard_machine.specs.ShardSteps.{IsOwn, NodeGoes, ShardStep, ShardState, asked_of}
+
+-- the shard is the same one
+abbrev pub SameShard : ShardState → ShardState → Type 0
+SameShard x y = (y.count ≡ x.count) × (y.number ≡ x.number)
+
+only_node : (x y : ShardState) → y ≡ record x { node = y.node } → SameShard x y
+only_node x y is = (ap (λ (s : ShardState). s.count) is, ap (λ (s : ShardState). s.number) is)
+
+pub step_keeps : (x y : ShardState) (c : ShardCall) (r : ShardReply) → ShardStep x c r y
+    → SameShard x y
+step_keeps x y c Foreign step = (ap (λ (s : ShardState). s.count) step.1, ap (λ (s : ShardState). s.number) step.1)
+step_keeps x y c r step = only_node x y step.1
+
+pub runs_keep : (x z : ShardState) (es : List (Operation ShardCall ShardReply)) → Runs ShardStep x es z
+    → SameShard x z
+runs_keep x z [] runs = (ap (λ (s : ShardState). s.count) (sym runs), ap (λ (s : ShardState). s.number) (sym runs))
+runs_keep x z (e ∷ es) runs =
+    let one = step_keeps x runs.0 e.call e.reply runs.1 in
+    let rest = runs_keep runs.0 z es runs.2 in
+    (rest.0 ∙ one.0, rest.1 ∙ one.1)
+
+-- the last step of a run
+pub last_of : {X C R : Type 0} (goes : X → C → R → X → Type 0) (x z : X) (es : List (Operation C R))
+    (e : Operation C R) → Runs goes x (es ++ e ∷ []) z
+    → (y : X) × Runs goes x es y × goes y e.call e.reply z
+last_of goes x z [] e runs = (x, refl, subst (λ k. goes x e.call e.reply k) runs.2 runs.1)
+last_of goes x z (f ∷ fs) e runs =
+    let rest = last_of goes runs.0 z fs e runs.2 in
+    (rest.0, (runs.0, runs.1, rest.1), rest.2)
+
+-- a call of own pages is answered as a node answers it
+pub own_step : (x y : ShardState) (c : ShardCall) (r : ShardReply) → IsOwn x.count x.number c
+    → ShardStep x c r y → NodeGoes x.node (asked_of c) r y.node
+own_step x y c Foreign own step = absurd (step.0 own)
+own_step x y c r own step = step.2
