@@ -1,12 +1,14 @@
 -- Calls that have no result.
 use Rattle.std.proofs.Common.{◌≡◌, ℕ, refl}
+use Rattle.warm_gossip.specs.declared.call.Call.TheVariants as node_call
 use Rattle.warm_gossip.specs.declared.fault.NodeFault.{NodeFault}
 use Rattle.warm_gossip.specs.State.{NodeState}
 use Rattle.warm_shard_machine.specs.declared.call.ShardCall.{ShardCall}
 use Rattle.warm_shard_machine.specs.declared.call.ShardCall.TheVariants.{Absorb, FlushDevice, ForgetPages, TakeIn, Write, WriteBack, WritePages}
 use Rattle.warm_shard_machine.specs.declared.call.ShardReply.{ShardReply}
-use Rattle.warm_shard_machine.specs.declared.call.ShardReply.TheVariants.{Changed, Copied, Dirty, Done, Foreign, Looked, Portion, Refused, Replaced, WasDirty}
-use Rattle.warm_shard_machine.specs.ShardSteps.{IsDoneCall, MayAnswer, IsOwn, NodeGoes, asked_of}
+use Rattle.warm_shard_machine.specs.declared.call.ShardReply.TheVariants.{Done, Refused}
+use Rattle.warm_shard_machine.specs.ShardSteps.{IsDoneCall, IsOwn, MayAnswer, NodeGoes, asked_of, node_reply_of}
+use Rattle.warm_shard_machine.proofs.ShardStepLemmas.{goes_as}
 
 module _ (count i : ℕ) where
   -- such a call brings pages of the shard alone
@@ -26,24 +28,8 @@ module _ (count i : ℕ) where
       → ((why : NodeFault) → r ≡ Refused why → ⊥) → ⊥
   done_goes x y c Done done goes not_done not_refused = not_done refl
   done_goes x y c (Refused why) done goes not_done not_refused = not_refused why refl
-  done_goes x y (Absorb batch) (Dirty left) done goes not_done not_refused = goes
-  done_goes x y (Absorb batch) (WasDirty was_dirty) done goes not_done not_refused = goes
-  done_goes x y (Absorb batch) (Replaced was) done goes not_done not_refused = goes
-  done_goes x y (Absorb batch) (Portion message more) done goes not_done not_refused = goes
-  done_goes x y (Absorb batch) (Copied copy) done goes not_done not_refused = goes
-  done_goes x y (Absorb batch) (Looked slot bytes) done goes not_done not_refused = goes
-  done_goes x y (Absorb batch) (Changed slot before after) done goes not_done not_refused = goes
-  done_goes x y (Absorb batch) Foreign done goes not_done not_refused = goes
-  done_goes x y (Absorb batch) r done goes not_done not_refused = goes.0
-  done_goes x y (Write slot at bytes) (Dirty left) done goes not_done not_refused = goes
-  done_goes x y (Write slot at bytes) (WasDirty was_dirty) done goes not_done not_refused = goes
-  done_goes x y (Write slot at bytes) (Replaced was) done goes not_done not_refused = goes
-  done_goes x y (Write slot at bytes) (Portion message more) done goes not_done not_refused = goes
-  done_goes x y (Write slot at bytes) (Copied copy) done goes not_done not_refused = goes
-  done_goes x y (Write slot at bytes) (Looked there seen) done goes not_done not_refused = goes
-  done_goes x y (Write slot at bytes) (Changed there before after) done goes not_done not_refused = goes
-  done_goes x y (Write slot at bytes) Foreign done goes not_done not_refused = goes
-  done_goes x y (Write slot at bytes) r done goes not_done not_refused = goes.0
+  done_goes x y (Absorb batch) r done goes not_done not_refused = goes_as x y (node_call.Absorb batch) (node_reply_of r) goes
+  done_goes x y (Write slot at bytes) r done goes not_done not_refused = goes_as x y (node_call.Write slot at bytes) (node_reply_of r) goes
   done_goes x y (TakeIn horizon entries) r done goes not_done not_refused = goes
   done_goes x y WritePages r done goes not_done not_refused = goes
   done_goes x y WriteBack r done goes not_done not_refused = goes

@@ -26,6 +26,7 @@ use Rattle.warm_shard_machine.specs.declared.call.ShardReply.TheVariants.{Answer
 use Rattle.warm_shard_machine.specs.Laws.{Log}
 use Rattle.warm_shard_machine.specs.Pins.{LeadsTo, PinsAreGiven, pin_by, pool_pins, unpin_by}
 use Rattle.warm_shard_machine.specs.ShardSteps.{CallGoes, NodeGoes, ShardState, ShardStep, asked_of, node_reply_of}
+use Rattle.warm_shard_machine.proofs.ShardStepLemmas.{goes_as}
 use Rattle.warm_shard_machine.proofs.PoolPinLemmas.{IsCalm, IsFree, Moves, calm_same, forgotten_moves, pin_moves, pool_free, refused_same, retire_refused, retired_moves, same_moves, then_same, unpin_moves, warm_moves, zeroed_moves}
 
 -- the pins of a node's pool changed so
@@ -97,39 +98,15 @@ goes_moves n m Offer r free step = calm n m node_call.Offer (node_reply_of r) tt
 goes_moves n m (Send bucket after) r free step = calm n m (node_call.Send bucket after) (node_reply_of r) tt free step
 goes_moves n m (Pin p) (Pinned slot) free step = pin_moves (node_view n) (node_view m) p slot step.0 free
 goes_moves n m (Pin p) (Refused why) free step = unpinned_page n m p why free step
-goes_moves n m (Pin p) (Dirty left) free step = absurd step
-goes_moves n m (Pin p) (WasDirty was_dirty) free step = absurd step
-goes_moves n m (Pin p) (Portion message more) free step = absurd step
-goes_moves n m (Pin p) (Copied history) free step = absurd step
-goes_moves n m (Pin p) (Replaced given) free step = absurd step
-goes_moves n m (Pin p) (Looked slot bytes) free step = absurd step
-goes_moves n m (Pin p) (Changed slot before after) free step = absurd step
-goes_moves n m (Pin p) Foreign free step = absurd step
-goes_moves n m (Pin p) r free step = absurd step.0
+goes_moves n m (Pin p) r free step = absurd (goes_as n m (node_call.Pin p) (node_reply_of r) step)
 goes_moves n m (Unpin slot) Done free step = unpin_moves (node_view n) (node_view m) slot step.0 free
 goes_moves n m (Unpin slot) (Refused why) free step =
     stays n m free (refused_same (node_view n) (node_view m) (node_call.Unpin slot) why step.0)
-goes_moves n m (Unpin slot) (Dirty left) free step = absurd step
-goes_moves n m (Unpin slot) (WasDirty was_dirty) free step = absurd step
-goes_moves n m (Unpin slot) (Portion message more) free step = absurd step
-goes_moves n m (Unpin slot) (Copied history) free step = absurd step
-goes_moves n m (Unpin slot) (Replaced given) free step = absurd step
-goes_moves n m (Unpin slot) (Looked at bytes) free step = absurd step
-goes_moves n m (Unpin slot) (Changed at before after) free step = absurd step
-goes_moves n m (Unpin slot) Foreign free step = absurd step
-goes_moves n m (Unpin slot) r free step = absurd step.0
+goes_moves n m (Unpin slot) r free step = absurd (goes_as n m (node_call.Unpin slot) (node_reply_of r) step)
 goes_moves n m WarmStep (Loaded page) free step = warm_moves (node_view n) (node_view m) page step.0 free
 goes_moves n m WarmStep (Refused why) free step =
     stays n m free (refused_same (node_view n) (node_view m) node_call.WarmStep why step.0)
-goes_moves n m WarmStep (Dirty left) free step = absurd step
-goes_moves n m WarmStep (WasDirty was_dirty) free step = absurd step
-goes_moves n m WarmStep (Portion message more) free step = absurd step
-goes_moves n m WarmStep (Copied history) free step = absurd step
-goes_moves n m WarmStep (Replaced given) free step = absurd step
-goes_moves n m WarmStep (Looked slot bytes) free step = absurd step
-goes_moves n m WarmStep (Changed slot before after) free step = absurd step
-goes_moves n m WarmStep Foreign free step = absurd step
-goes_moves n m WarmStep r free step = absurd step.0
+goes_moves n m WarmStep r free step = absurd (goes_as n m node_call.WarmStep (node_reply_of r) step)
 goes_moves n m (TakeIn horizon es) Done free step = stays n m free (ap (λ (v : NodeView). v.pool.frames) step.0)
 goes_moves n m (TakeIn horizon es) (Refused why) free step = stays n m free (unseen n m step.1)
 goes_moves n m (TakeIn horizon es) r free step = absurd step

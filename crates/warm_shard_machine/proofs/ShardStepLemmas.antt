@@ -1,11 +1,15 @@
--- What the steps of a shard keep.
-use Rattle.std.proofs.Common.{◌≡◌, List, [], ◌∷◌, ◌++◌, refl, sym, ap, subst, ◌∙◌}
+-- What the steps of a shard keep, and what they are of a call of its node.
+use Rattle.std.proofs.Common.{◌≡◌, List, [], ◌∷◌, ◌++◌, Option, Some, None, refl, sym, ap, subst, ◌∙◌}
 use Rattle.warm_machine.specs.declared.operation.Operation.{Operation}
 use Rattle.warm_machine.specs.Runs.{Runs}
+use Rattle.warm_gossip.specs.declared.call.Call.{Call}
+use Rattle.warm_gossip.specs.declared.call.Reply.{Reply}
+use Rattle.warm_gossip.specs.Clauses.{Goes}
+use Rattle.warm_gossip.specs.State.{NodeState}
 use Rattle.warm_shard_machine.specs.declared.call.ShardCall.{ShardCall}
 use Rattle.warm_shard_machine.specs.declared.call.ShardReply.{ShardReply}
 use Rattle.warm_shard_machine.specs.declared.call.ShardReply.TheVariants.{Foreign}
-use Rattle.warm_shard_machine.specs.ShardSteps.{IsOwn, NodeGoes, ShardStep, ShardState, asked_of}
+use Rattle.warm_shard_machine.specs.ShardSteps.{CallGoes, IsOwn, NodeGoes, ShardStep, ShardState, asked_of}
 
 -- the shard is the same one
 abbrev pub SameShard : ShardState → ShardState → Type 0
@@ -41,3 +45,13 @@ pub own_step : (x y : ShardState) (c : ShardCall) (r : ShardReply) → IsOwn x.c
     → ShardStep x c r y → NodeGoes x.node (asked_of c) r y.node
 own_step x y c Foreign own step = absurd (step.0 own)
 own_step x y c r own step = step.2
+
+-- what a caller of the node sees of a call, by its reply, if this is one of a node
+abbrev pub GoesAs : NodeState → Call → Option Reply → NodeState → Type 0
+GoesAs n call None m = ⊥
+GoesAs n call (Some reply) m = Goes n call reply m
+
+pub goes_as : (n m : NodeState) (call : Call) (k : Option Reply) → CallGoes n call k m
+    → GoesAs n call k m
+goes_as n m call None step = step
+goes_as n m call (Some reply) step = step.0
