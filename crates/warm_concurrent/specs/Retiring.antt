@@ -4,24 +4,23 @@ use Rattle.boxcar.specs.declared.tag.Tag.{Tag}
 use Rattle.warm_devices.specs.Device.{DeviceState}
 use Rattle.warm_gossip.specs.declared.fault.NodeFault.TheVariants.{Pool}
 use Rattle.warm_shard_machine.specs.declared.call.ShardCall.TheVariants.{Retire}
-use Rattle.warm_shard_machine.specs.declared.call.ShardReply.TheVariants.{Done, Refused, Replaced}
+use Rattle.warm_shard_machine.specs.declared.call.ShardReply.TheVariants.{Refused, Replaced}
 use Rattle.warm_concurrent.specs.declared.fault.SharedFault.{SharedFault}
 use Rattle.warm_concurrent.specs.declared.fault.SharedFault.TheVariants.{Node, TurnsSpent}
 use Rattle.warm_concurrent.specs.Attached.{ShardPass}
 use Rattle.warm_concurrent.specs.Clauses.{AnsweredByShard, Spent}
 use Rattle.warm_shard_machine.specs.ToldDevices.{IsTold}
 
--- the shard of this number replaced its device with one of this state, in one turn, and no other was
--- entered
-abbrev pub RetiresAt : List ShardPass → ℕ → ℕ → DeviceState → List ShardPass → Type 0
-RetiresAt old i dev device new = (told : Tag) × IsTold told device
-    × AnsweredByShard old i (Retire dev told) Done new
-
 -- the shard of this number replaced its device with one of this state, and gave the old one back,
 -- in its state, in one turn; no other was entered
 abbrev pub ReplacesAt : List ShardPass → ℕ → ℕ → DeviceState → DeviceState → List ShardPass → Type 0
 ReplacesAt old i dev device was new = (told : Tag) × (given : Tag) × IsTold told device
     × IsTold given was × AnsweredByShard old i (Retire dev told) (Replaced given) new
+
+-- the shard of this number replaced its device with one of this state, in one turn, and gave the old
+-- one back; no other was entered
+abbrev pub RetiresAt : List ShardPass → ℕ → ℕ → DeviceState → List ShardPass → Type 0
+RetiresAt old i dev device new = (was : DeviceState) × ReplacesAt old i dev device was new
 
 -- the shard of this number refused to replace its device, with a fault of its pool; or no ticket
 -- was left

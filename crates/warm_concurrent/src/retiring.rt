@@ -9,7 +9,7 @@ use std::sync::Wait;
 use warm_devices::PageDevice;
 use warm_gossip::NodeFault;
 use warm_pool::RetireError;
-use warm_shard_machine::{Replacing, Retiring, Shard};
+use warm_shard_machine::{Replacing, Shard};
 use warm_turn::{Pass, Turn};
 
 /// Why a device was not replaced, and the device that was to replace it.
@@ -19,41 +19,6 @@ pub struct NotRetired<D: PageDevice> {
     pub fault: SharedFault,
     /// The new device, unchanged.
     pub device: D,
-}
-
-// Replaces a device of one shard.
-fn retire_in<D: PageDevice + Send, R: Wait>(
-    rt: &R,
-    turns: &Vec<Turn<Shard<D>>>,
-    passes: &mut Vec<Pass<Shard<D>>>,
-    shard: usize,
-    dev: u16,
-    device: D,
-) -> Result<(), NotRetired<D>>
-    requires turns { AreTurns turns.now.items }
-    requires passes { AreOf turns.now.items passes.old.items }
-    requires there { shard < length turns.now.items }
-    ensures passes { AreOf turns.now.items passes.new.items }
-    ensures retired { OnOk result
-        (RetiresAt passes.old.items shard dev (D.state device) passes.new.items) }
-    ensures refused { IfErr result (λ unretired. RetireFailsAt passes.old.items shard dev
-        (D.state device) unretired.fault passes.new.items) }
-    ensures given_back { IfErr result (λ unretired. unretired.device ≡ device) }
-{
-    match visit_or_back(rt, turns, passes, shard, Retiring { dev, device }) {
-        Ok(Ok(())) => Ok(()),
-        Ok(Err(unretired)) => {
-            let RetireError { fault, device } = unretired;
-            Err(NotRetired {
-                fault: SharedFault::Node(NodeFault::Pool(fault)),
-                device,
-            })
-        }
-        Err(Retiring { dev: _, device }) => Err(NotRetired {
-            fault: SharedFault::TurnsSpent,
-            device,
-        }),
-    }
 }
 
 // Replaces a device of one shard, and gives the old one back.
@@ -147,6 +112,7 @@ impl<D: PageDevice + Send> SharedShards<D> {
         ensures given_back { IfErr result (λ unretired. unretired.device ≡ device) }
         ensures pins { attached.new.pins ≡ attached.old.pins }
     {
-        retire_in(rt, &self.turns, &mut attached.passes, shard, dev, device)
+        let _was = replace_in(rt, &self.turns, &mut attached.passes, shard, dev, device)?;
+        Ok(())
     }
 }

@@ -143,8 +143,6 @@ module _ (count i : ℕ) where
   step_own n m copying (Copied h) brings own step = subst (HoldsShard count i) (sym step.1) own
   step_own n m copying (Refused why) brings own step = subst (HoldsShard count i) (sym step.1) own
   step_own n m copying r brings own step = absurd step
-  step_own n m (retiring dev told) Done brings own step =
-      pool_own n m own step.2 (retired_own {T = Unit} {E = PoolFault} IsHere n m dev step.0 (λ f. f) (Ok tt) own.resident step.2 step.3.retired tt).own
   step_own n m (retiring dev told) (Replaced given) brings own step =
       pool_own n m own step.4 (retired_own {T = Unit} {E = PoolFault} IsHere n m dev step.0 (λ f. f) (Ok tt) own.resident step.4 step.5.retires.retired tt).own
   step_own n m (retiring dev told) (Refused (Pool fault)) brings own step =

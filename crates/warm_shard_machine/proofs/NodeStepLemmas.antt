@@ -27,20 +27,7 @@ use Rattle.warm_shard_machine.specs.ShardSteps.{Asked, doing, looking, changing,
 -- a node never answers that a page is of another shard
 not_foreign : (x y : NodeState) (w : Work) → NodeStep x w Foreign y → ⊥
 not_foreign x y (calling c) step = step
-not_foreign x y writing_pages step = step
-not_foreign x y (writing_some limit) step = step
-not_foreign x y (writing_page p) step = step
-not_foreign x y writing_back step = step
-not_foreign x y (flushing dev) step = step
-not_foreign x y (zeroing p) step = step
-not_foreign x y (filling p bytes) step = step
-not_foreign x y naming_next step = step
-not_foreign x y (forgetting dev from) step = step
-not_foreign x y (taking_in horizon es) step = step
-not_foreign x y (answering request) step = step
-not_foreign x y (sending_since bucket since after) step = step
-not_foreign x y copying step = step
-not_foreign x y (retiring dev told) step = step
+not_foreign x y w step = step
 
 asked_run : (x y : NodeState) (by : ℕ) (a : Asked) (r : ShardReply) → NodeGoes x a r y
     → Runs NodeStep x (asked_steps by a r) y
@@ -53,10 +40,9 @@ asked_run x y by (changing p) (Changed slot before after) step = (step.mid, step
 asked_run x y by (changing p) (Refused why) step = (y, step, refl)
 asked_run x y by (changing p) r step = absurd step
 
-foreign_none : (by : ℕ) (a : Asked) → asked_steps by a Foreign ≡ []
+pub foreign_none : (by : ℕ) (a : Asked) → asked_steps by a Foreign ≡ []
 foreign_none by (doing w) = refl
-foreign_none by (looking p) = refl
-foreign_none by (changing p) = refl
+foreign_none by a = refl
 
 shard_run : (o y : ShardState) (by : ℕ) (c : ShardCall) (r : ShardReply) → ShardStep o c r y
     → Runs NodeStep o.node (asked_steps by (asked_of c) r) y.node
@@ -154,7 +140,6 @@ beside o y (sending_since bucket since after) r is step = absurd step
 beside o y copying (Copied h) is step = ap (λ (n : NodeState). n.history) step.1
 beside o y copying (Refused why) is step = ap (λ (n : NodeState). n.history) step.1
 beside o y copying r is step = absurd step
-beside o y (retiring dev told) Done is step = step.2.history
 beside o y (retiring dev told) (Replaced given) is step = step.4.history
 beside o y (retiring dev told) (Refused (Pool _)) is step = step.2.history
 beside o y (retiring dev told) (Refused Memory) is step = ap (λ (n : NodeState). n.history) step
@@ -167,19 +152,7 @@ one_given S o y (calling c) r stands step = call_given S o y c (node_reply_of r)
 one_given S o y (taking_in horizon es) Done stands step = taken_given S o y horizon es stands step.0
 one_given S o y (taking_in horizon es) (Refused why) stands step = same_history o y step.1 ∙ stands
 one_given S o y (taking_in horizon es) r stands step = absurd step
-one_given S o y writing_pages r stands step = beside o y writing_pages r tt step ∙ stands
-one_given S o y (writing_some limit) r stands step = beside o y (writing_some limit) r tt step ∙ stands
-one_given S o y (writing_page p) r stands step = beside o y (writing_page p) r tt step ∙ stands
-one_given S o y (flushing dev) r stands step = beside o y (flushing dev) r tt step ∙ stands
-one_given S o y writing_back r stands step = beside o y writing_back r tt step ∙ stands
-one_given S o y (zeroing p) r stands step = beside o y (zeroing p) r tt step ∙ stands
-one_given S o y (filling p bytes) r stands step = beside o y (filling p bytes) r tt step ∙ stands
-one_given S o y naming_next r stands step = beside o y naming_next r tt step ∙ stands
-one_given S o y (forgetting dev from) r stands step = beside o y (forgetting dev from) r tt step ∙ stands
-one_given S o y (answering request) r stands step = beside o y (answering request) r tt step ∙ stands
-one_given S o y (sending_since bucket since after) r stands step = beside o y (sending_since bucket since after) r tt step ∙ stands
-one_given S o y copying r stands step = beside o y copying r tt step ∙ stands
-one_given S o y (retiring dev told) r stands step = beside o y (retiring dev told) r tt step ∙ stands
+one_given S o y w r stands step = beside o y w r tt step ∙ stands
 
 -- and so after many
 steps_given : (S : ReferenceSet) (o z : NodeState) (es : List (Operation Work ShardReply))

@@ -155,8 +155,6 @@ goes_moves n m (ForgetPages dev from) Done free step = forgotten_moves n.pool m.
 goes_moves n m (ForgetPages dev from) (Refused why) free step =
     stays n m free (ap (λ (s : PoolState). (view_of s).frames) (unforgotten n.pool m.pool dev from why step.1))
 goes_moves n m (ForgetPages dev from) r free step = absurd step
-goes_moves n m (Retire dev told) Done free step =
-    retired_moves (view_of n.pool) (view_of m.pool) dev step.0 step.3.retired free
 goes_moves n m (Retire dev told) (Replaced given) free step =
     retired_moves (view_of n.pool) (view_of m.pool) dev step.0 step.5.retires.retired free
 goes_moves n m (Retire dev told) (Refused (Pool fault)) free step =

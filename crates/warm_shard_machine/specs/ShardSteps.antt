@@ -13,8 +13,8 @@ use Rattle.warm_pool.specs.Filling.{TakesFilled}
 use Rattle.warm_pool.specs.Forgetting.{ForgetRefused, Forgets}
 use Rattle.warm_devices.specs.Device.{DeviceState}
 use Rattle.warm_pool.specs.Keeping.{KeepsBytes, KeepsFrames}
-use Rattle.warm_pool.specs.Outcomes.{FlushDeviceFails, ReplacesDevice, RetireFails, RetiresDevice}
-use Rattle.warm_pool.specs.Outcomes.{SettlesDevice, UnreadPinFails, WritePageFails, WritesPageBack}
+use Rattle.warm_pool.specs.Outcomes.{FlushDeviceFails, ReplacesDevice, RetireFails, SettlesDevice}
+use Rattle.warm_pool.specs.Outcomes.{UnreadPinFails, WritePageFails, WritesPageBack}
 use Rattle.warm_pool.specs.PageBytes.{IsLent}
 use Rattle.warm_pool.specs.State.{IsSettled}
 use Rattle.warm_pool.specs.View.{view_of}
@@ -301,12 +301,10 @@ CopyStep old (Copied history) new = (history ≡ old.history) × (new ≡ old)
 CopyStep old (Refused why) new = (why ≡ Memory) × (new ≡ old)
 CopyStep old reply new = ⊥
 
--- A device was replaced with one of the state that was told, and the old one was dropped, or given
--- back in the state that was told; or a pool refuses it. A call that brought no device is refused as
--- if no memory were left.
+-- A device was replaced with one of the state that was told, and the old one was given back in the
+-- state that was told; or a pool refuses it. A call that brought no device is refused as if no memory
+-- were left.
 abbrev pub RetireStep : NodeState → ℕ → Tag → ShardReply → NodeState → Type 0
-RetireStep old dev told Done new = (device : DeviceState) × IsTold told device × KeepsKnown old new
-    × RetiresDevice dev device old.pool new.pool
 RetireStep old dev told (Replaced given) new = (device : DeviceState) × (was : DeviceState)
     × IsTold told device × IsTold given was × KeepsKnown old new
     × ReplacesDevice dev device old.pool was new.pool

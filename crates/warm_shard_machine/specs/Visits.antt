@@ -9,9 +9,9 @@ use Rattle.warm_gossip.specs.declared.fault.NodeFault.TheVariants.{Memory, Pool}
 use Rattle.warm_shard_machine.specs.declared.call.ShardCall.{ShardCall}
 use Rattle.warm_shard_machine.specs.declared.call.ShardCall.TheVariants.{Retire}
 use Rattle.warm_shard_machine.specs.declared.call.ShardReply.{ShardReply}
-use Rattle.warm_shard_machine.specs.declared.call.ShardReply.TheVariants.{Bytes, Changed, Done}
-use Rattle.warm_shard_machine.specs.declared.call.ShardReply.TheVariants.{Foreign, Looked, Pinned}
-use Rattle.warm_shard_machine.specs.declared.call.ShardReply.TheVariants.{Refused, Replaced}
+use Rattle.warm_shard_machine.specs.declared.call.ShardReply.TheVariants.{Bytes, Changed, Foreign}
+use Rattle.warm_shard_machine.specs.declared.call.ShardReply.TheVariants.{Looked, Pinned, Refused}
+use Rattle.warm_shard_machine.specs.declared.call.ShardReply.TheVariants.{Replaced}
 use Rattle.warm_shard_machine.specs.declared.visitors.Went.{Went}
 use Rattle.warm_shard_machine.specs.declared.visitors.Went.TheVariants as went
 use Rattle.warm_shard_machine.specs.ToldDevices.{IsTold}
@@ -50,15 +50,6 @@ FillsAs went.Foreign reply = reply ≡ Foreign
 -- pages: in a turn no contract knows which bytes a thread read before it.
 abbrev pub ClaimNothing : {D : Type 0} → (D → DeviceState) → Type 0
 ClaimNothing {D} state = (device : D) → (state device).honest ≡ false
-
--- How a replacement went, as the call and the reply say: the device was replaced, or the pool
--- refused it with the fault of this error
-abbrev pub RetiresAs : {E : Type 0} → (E → PoolFault) → ℕ → DeviceState → Result Unit E → ShardCall
-    → ShardReply → Type 0
-RetiresAs fault dev device (Ok done) call reply = (told : Tag) × IsTold told device
-    × (call ≡ Retire dev told) × (reply ≡ Done)
-RetiresAs fault dev device (Err e) call reply = (told : Tag) × IsTold told device
-    × (call ≡ Retire dev told) × (reply ≡ Refused (Pool (fault e)))
 
 -- How a replacement went, as the call and the reply say: the old device is given back, in this
 -- state, or the pool refused it with the fault of this error

@@ -104,7 +104,7 @@ pub enum ShardCall {
         /// The number of the first page.
         from: u64,
     },
-    /// Replace a device of the shard with another. The old one is dropped, or given back. A value of
+    /// Replace a device of the shard with another. The old one is given back. A value of
     /// this call brings no device, and is refused: the visitor [`crate::Replacing`] brings one.
     Retire {
         /// The device.

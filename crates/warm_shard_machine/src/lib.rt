@@ -18,6 +18,6 @@ pub use boxed_history::BoxedHistory;
 pub use call::{ShardCall, ShardReply};
 pub use filling::Filling;
 pub use lending::tag_of;
-pub use replacing::{Replacing, Retiring};
+pub use replacing::Replacing;
 pub use shard::{Place, Shard, StateOfShard};
 pub use visitors::{Changing, Looking, Pinning, ReadInto, Reading, Unpinning, Went};

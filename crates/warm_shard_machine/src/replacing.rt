@@ -1,6 +1,6 @@
-//! Visitors that replace a device of a shard with another.
+//! A visitor that replaces a device of a shard with another.
 ghost use Rattle.std.specs.Prelude.{◌≡◌, IfErr};
-ghost use Rattle.warm_shard_machine.specs.Visits.{ReplacesAs, RetiresAs};
+ghost use Rattle.warm_shard_machine.specs.Visits.{ReplacesAs};
 ghost use Rattle.warm_shard_machine.specs.ShardSteps.{ShardStep};
 ghost use Rattle.warm_shard_machine.specs.ToldDevices.{IsTold};
 
@@ -27,35 +27,6 @@ fn told_of<D: PageDevice>(device: &D) -> Tag
     ensures { IsTold result (D.state device.now) }
 {
     Tag::of::<D, OfDevice>(device)
-}
-
-/// Replaces a device with another, and drops the old one.
-pub struct Retiring<D> {
-    /// The number of the device.
-    pub dev: u16,
-    /// The other device.
-    pub device: D,
-}
-
-impl<D: PageDevice + Send> Visit<Shard<D>> for Retiring<D> {
-    ghost use Rattle.std.specs.Prelude.{◌≡◌, ⊤, IfErr};
-    ghost use Rattle.warm_shard_machine.specs.Visits.{RetiresAs};
-
-    type Output = Result<(), RetireError<D>>;
-
-    ghost ready = { λ _. ⊤ };
-
-    ghost makes = { λ v output call reply.
-        RetiresAs (λ e. e.fault) v.dev (D.state v.device) output call reply
-        × IfErr output (λ e. e.device ≡ v.device) };
-
-    fn visit(
-        self,
-        shard: &mut Shard<D>,
-    ) -> Visited<ShardCall, ShardReply, Result<(), RetireError<D>>> {
-        let Retiring { dev, device } = self;
-        shard.retire(dev, device)
-    }
 }
 
 /// Replaces a device with another, and gives the old one back.
@@ -110,29 +81,6 @@ impl<D: PageDevice> Shard<D> {
             Err(unreplaced) => {
                 let why = NodeFault::Pool(unreplaced.fault);
                 visited(call, ShardReply::Refused(why), Err(unreplaced))
-            }
-        }
-    }
-
-    // Replaces a device of this shard with another, and drops the old one.
-    fn retire(
-        &mut self,
-        dev: u16,
-        device: D,
-    ) -> Visited<ShardCall, ShardReply, Result<(), RetireError<D>>>
-        ensures made { RetiresAs (λ e. e.fault) dev (D.state device) result.output
-            result.made.call.value result.made.reply.value }
-        ensures given_back { IfErr result.output (λ e. e.device ≡ device) }
-        ensures step { ShardStep self.old result.made.call.value result.made.reply.value
-            self.new }
-    {
-        let told = told_of(&device);
-        let call = ShardCall::Retire { dev, device: told };
-        match self.node.retire(dev, device) {
-            Ok(()) => visited(call, ShardReply::Done, Ok(())),
-            Err(unretired) => {
-                let why = NodeFault::Pool(unretired.fault);
-                visited(call, ShardReply::Refused(why), Err(unretired))
             }
         }
     }
