@@ -2,10 +2,9 @@
 ghost use Rattle.std.specs.Prelude.{◌≡◌, IfErr, IfOk};
 ghost use Rattle.warm_peer.specs.Answers.{IsAnswer};
 ghost use Rattle.warm_concurrent.specs.Asking.{AnswersByCopy};
-ghost use Rattle.warm_concurrent.specs.Attached.{AreOf, AreTurns, OpenedAs};
+ghost use Rattle.warm_concurrent.specs.Attached.{AreOf};
 ghost use Rattle.warm_concurrent.specs.Copying.{CopyFails};
 
-use crate::copying::copy_all;
 use crate::fault::SharedFault;
 use crate::history_calls::Stopped;
 use crate::shared::{Attached, SharedShards};
@@ -17,9 +16,7 @@ use warm_gossip::NodeFault;
 use warm_history::History;
 use warm_history::laws::prove_is_history;
 use warm_peer::Peer;
-use warm_shard_machine::Shard;
 use warm_stamps::ReplicaId;
-use warm_turn::{Pass, Turn};
 
 // A peer that has this history.
 fn peer_with(alloc: Global, id: ReplicaId, history: &History) -> Result<Peer, AllocError>
@@ -44,34 +41,6 @@ fn answer_of(
 {
     let mut peer = peer_with(alloc, id, history)?;
     peer.answers(message)
-}
-
-// Has each shard copy its history. Returns what a replica that has the join of the copies answers.
-fn ask_all<D: PageDevice + Send, R: Wait>(
-    rt: &R,
-    alloc: Global,
-    id: ReplicaId,
-    turns: &Vec<Turn<Shard<D>>>,
-    passes: &mut Vec<Pass<Shard<D>>>,
-    message: &Message,
-) -> Result<MessageList, Stopped>
-    requires turns { AreTurns turns.now.items }
-    requires id { OpenedAs id turns.now.items }
-    requires passes { AreOf turns.now.items passes.old.items }
-    ensures passes { AreOf turns.now.items passes.new.items }
-    ensures answers { IfOk result (λ answers. AnswersByCopy turns.now.items message.now answers
-        passes.old.items passes.new.items) }
-    ensures stopped { IfErr result (λ at. CopyFails at.shard at.fault passes.old.items
-        passes.new.items) }
-{
-    let copy = copy_all(rt, alloc, turns, passes)?;
-    let Ok(answers) = answer_of(alloc, id, &copy, message) else {
-        return Err(Stopped {
-            fault: SharedFault::Node(NodeFault::Memory),
-            shard: turns.len(),
-        });
-    };
-    Ok(answers)
 }
 
 impl<D: PageDevice + Send> SharedShards<D> {
@@ -99,8 +68,13 @@ impl<D: PageDevice + Send> SharedShards<D> {
             CopyFails at.shard at.fault attached.old.passes attached.new.passes) }
         ensures pins { attached.new.pins ≡ attached.old.pins }
     {
-        let passes = &mut attached.passes;
-        let answers = ask_all(rt, alloc, self.id, &self.turns, passes, message)?;
+        let copy = self.history(rt, alloc, attached)?;
+        let Ok(answers) = answer_of(alloc, self.id, &copy, message) else {
+            return Err(Stopped {
+                fault: SharedFault::Node(NodeFault::Memory),
+                shard: self.turns.len(),
+            });
+        };
         Ok(answers)
     }
 }

@@ -83,31 +83,6 @@ fn hottest_of(alloc: Global, history: &History, n: usize) -> Result<PageList, Al
     Ok(PageList::of(pages))
 }
 
-// Has each shard copy its history, and lists the hottest pages of all copies.
-fn list_all<D: PageDevice + Send, R: Wait>(
-    rt: &R,
-    alloc: Global,
-    turns: &Vec<Turn<Shard<D>>>,
-    passes: &mut Vec<Pass<Shard<D>>>,
-    n: usize,
-) -> Result<PageList, Stopped>
-    requires turns { AreTurns turns.now.items }
-    requires passes { AreOf turns.now.items passes.old.items }
-    ensures passes { AreOf turns.now.items passes.new.items }
-    ensures listed { IfOk result (λ pages. ListsAll n pages passes.old.items passes.new.items) }
-    ensures stopped { IfErr result (λ at. CopyFails at.shard at.fault passes.old.items
-        passes.new.items) }
-{
-    let copy = copy_all(rt, alloc, turns, passes)?;
-    let Ok(pages) = hottest_of(alloc, &copy, n) else {
-        return Err(Stopped {
-            fault: SharedFault::Node(NodeFault::Memory),
-            shard: turns.len(),
-        });
-    };
-    Ok(pages)
-}
-
 impl<D: PageDevice + Send> SharedShards<D> {
     /// A copy of the history of all shards: each shard copies its own in one turn, in the order of
     /// the shards, in which the call `CopyHistory` is answered, and the copy is their join. A dump
@@ -157,7 +132,13 @@ impl<D: PageDevice + Send> SharedShards<D> {
             CopyFails at.shard at.fault attached.old.passes attached.new.passes) }
         ensures pins { attached.new.pins ≡ attached.old.pins }
     {
-        let pages = list_all(rt, alloc, &self.turns, &mut attached.passes, n)?;
+        let copy = self.history(rt, alloc, attached)?;
+        let Ok(pages) = hottest_of(alloc, &copy, n) else {
+            return Err(Stopped {
+                fault: SharedFault::Node(NodeFault::Memory),
+                shard: self.turns.len(),
+            });
+        };
         Ok(pages)
     }
 }

@@ -1,6 +1,6 @@
 use Rattle.std.proofs.Common.{◌≡◌, ℕ, inl, length, refl, subst, arith}
 use Rattle.warm_concurrent.specs.Copying.{CopiesFirst}
-use Rattle.warm_concurrent.proofs.asking.ask_all.Goals as goal
+use Rattle.warm_concurrent.proofs.shared.SharedShards.answers.Goals as goal
 
 pub returns-in_default-clause-stopped : goal.returns-in_default-clause-stopped
 returns-in_default-clause-stopped g c =

@@ -1,13 +1,13 @@
 use Rattle.std.proofs.Common.{◌≡◌, inl, length, refl, subst, arith}
 use Rattle.warm_concurrent.specs.Copying.{CopiesFirst}
-use Rattle.warm_concurrent.proofs.copying.list_all.Goals as goal
+use Rattle.warm_concurrent.proofs.shared.SharedShards.warm_list.Goals as goal
 
 pub returns-in_default-clause-stopped : goal.returns-in_default-clause-stopped
 returns-in_default-clause-stopped g c =
-    let old = c.args.passes.now.items in
-    let new = c.copy_all.new.passes.items in
+    let old = c.args.attached.now.passes in
+    let new = c.history.new.passes in
     let copied = c.in_ok-copy.ensures.copied in
-    let same : length old ≡ c.len.result = omega (arith, c.requires.passes.count, c.len.ensures) in
+    let same : length old ≡ c.len.result = omega (arith, c.requires.count, c.len.ensures) in
     (copied.0, new, subst (λ n. CopiesFirst copied.0 n old new) same copied.1, inl (omega (arith, same), refl, refl))
 
 pub returns-clause-listed : goal.returns-clause-listed
