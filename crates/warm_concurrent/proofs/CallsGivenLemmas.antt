@@ -12,10 +12,10 @@ use Rattle.warm_peer.specs.Answers.{refs_in}
 use Rattle.warm_shards.specs.Parts.{part_of_batch}
 use Rattle.warm_shards.specs.Shards.{of_first_shards, of_shard, shard_of}
 use Rattle.warm_shards.proofs.Lists.{from_filter, in_both, in_filter, in_first, in_second}
-use Rattle.warm_shard_machine.specs.declared.call.ShardCall.{ShardCall}
-use Rattle.warm_shard_machine.specs.declared.call.ShardCall.TheVariants.{Absorb, Answer, CopyHistory, Offer, Raise, TakeIn}
-use Rattle.warm_shard_machine.specs.declared.call.ShardReply.{ShardReply}
-use Rattle.warm_shard_machine.specs.declared.call.ShardReply.TheVariants.{Copied, Done, Refused}
+use Rattle.warm_shard_machine.specs.declared.calls.ShardCall.{ShardCall}
+use Rattle.warm_shard_machine.specs.declared.calls.ShardCall.TheVariants.{Absorb, Answer, CopyHistory, Offer, Raise, TakeIn}
+use Rattle.warm_shard_machine.specs.declared.calls.ShardReply.{ShardReply}
+use Rattle.warm_shard_machine.specs.declared.calls.ShardReply.TheVariants.{Copied, Done, Refused}
 use Rattle.warm_frames.specs.declared.message.Message.{Message}
 use Rattle.warm_frames.specs.declared.message.Message.TheVariants.{Entries, Digest, Want}
 use Rattle.warm_gossip.specs.declared.fault.NodeFault.{NodeFault}

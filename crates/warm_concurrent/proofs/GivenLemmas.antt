@@ -12,10 +12,10 @@ use Rattle.warm_shards.specs.Parts.{part_of_batch, part_of_message}
 use Rattle.warm_shards.specs.Shards.{IsShardCount, of_shard}
 use Rattle.warm_shards.proofs.Absorbing.{some_count}
 use Rattle.warm_shards.proofs.WholeParts.{message_part}
-use Rattle.warm_shard_machine.specs.declared.call.ShardCall.{ShardCall}
-use Rattle.warm_shard_machine.specs.declared.call.ShardCall.TheVariants.{Absorb, Answer, Offer, Raise}
-use Rattle.warm_shard_machine.specs.declared.call.ShardReply.{ShardReply}
-use Rattle.warm_shard_machine.specs.declared.call.ShardReply.TheVariants.{Answers, Done, Kept}
+use Rattle.warm_shard_machine.specs.declared.calls.ShardCall.{ShardCall}
+use Rattle.warm_shard_machine.specs.declared.calls.ShardCall.TheVariants.{Absorb, Answer, Offer, Raise}
+use Rattle.warm_shard_machine.specs.declared.calls.ShardReply.{ShardReply}
+use Rattle.warm_shard_machine.specs.declared.calls.ShardReply.TheVariants.{Answers, Done, Kept}
 use Rattle.warm_concurrent.specs.declared.answering.Offered.{Offered}
 use Rattle.warm_concurrent.specs.Answering.{AnswersAll, AnswersPart, GathersAll, Offers, offer_at, offer_reply}
 use Rattle.warm_concurrent.specs.Attached.{ShardPass, shard_pass}

@@ -2,10 +2,10 @@
 use Rattle.std.proofs.Common.{◌≡◌, ℕ, List, subst}
 use Rattle.warm_stamps.specs.declared.PageId.{PageId}
 use Rattle.warm_shards.specs.Shards.{shard_of}
-use Rattle.warm_shard_machine.specs.declared.call.ShardCall.{ShardCall}
-use Rattle.warm_shard_machine.specs.declared.call.ShardCall.TheVariants.{Look}
-use Rattle.warm_shard_machine.specs.declared.call.ShardReply.{ShardReply}
-use Rattle.warm_shard_machine.specs.declared.call.ShardReply.TheVariants.{Foreign, Looked}
+use Rattle.warm_shard_machine.specs.declared.calls.ShardCall.{ShardCall}
+use Rattle.warm_shard_machine.specs.declared.calls.ShardCall.TheVariants.{Look}
+use Rattle.warm_shard_machine.specs.declared.calls.ShardReply.{ShardReply}
+use Rattle.warm_shard_machine.specs.declared.calls.ShardReply.TheVariants.{Foreign, Looked}
 use Rattle.warm_shard_machine.specs.declared.visitors.Went.{Went}
 use Rattle.warm_shard_machine.specs.declared.visitors.Went.TheVariants as went
 use Rattle.warm_concurrent.specs.Attached.{ShardPass}

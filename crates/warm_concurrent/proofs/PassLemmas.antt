@@ -2,8 +2,8 @@
 use Rattle.std.proofs.Common.{◌≡◌, ℕ, ◌<◌, List, length, set, Some, sym, ap, subst, ◌∙◌, arith, ◌++◌}
 use Rattle.std.proofs.lemmas.List.{get_or-set_same, length-set}
 use Rattle.warm_turn.specs.CallHistories.{Called, marked}
-use Rattle.warm_shard_machine.specs.declared.call.ShardCall.{ShardCall}
-use Rattle.warm_shard_machine.specs.declared.call.ShardReply.{ShardReply}
+use Rattle.warm_shard_machine.specs.declared.calls.ShardCall.{ShardCall}
+use Rattle.warm_shard_machine.specs.declared.calls.ShardReply.{ShardReply}
 use Rattle.warm_concurrent.specs.Attached.{AreOf, AreTurns, IsPassOf, KeepsOtherPasses, Known, ShardPass, ShardTurn, known_of, no_pass, shard_pass, shard_turn}
 use Rattle.warm_concurrent.specs.Clauses.{AnsweredByShard, Spent}
 use Rattle.warm_shard_machine.specs.ShardSteps.{MayAnswer, ShardStep, IsOwn, ShardState}

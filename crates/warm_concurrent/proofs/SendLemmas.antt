@@ -7,8 +7,8 @@ use denote.Struct.Declared as Declared
 use Rattle.std.proofs.Crossing.{crosses, Vec-send}
 use Rattle.warm_devices.specs.declared.device.PageDevice.{Ghosts}
 use Rattle.warm_turn.specs.contracts.turn.Pass as Pass
-use Rattle.warm_shard_machine.specs.contracts.call.ShardCall as ShardCall
-use Rattle.warm_shard_machine.specs.contracts.call.ShardReply as ShardReply
+use Rattle.warm_shard_machine.specs.contracts.calls.ShardCall as ShardCall
+use Rattle.warm_shard_machine.specs.contracts.calls.ShardReply as ShardReply
 use Rattle.warm_shard_machine.specs.contracts.shard.StateOfShard as StateOfShard
 use Rattle.warm_turn.proofs.Sent.{pass_send, turn_sync}
 use Rattle.warm_shard_machine.proofs.SendLemmas.{shard_machine, shard_send}

@@ -12,8 +12,8 @@ use Rattle.warm_turn.specs.CallHistories.{EachIsBy, HoldsNumber, IsAmong, as_end
 use Rattle.warm_turn.specs.declared.fault.Busy.{Busy}
 use Rattle.warm_gossip.specs.State.{NodeState}
 use Rattle.warm_shards.specs.Shards.{IsShardCount}
-use Rattle.warm_shard_machine.specs.declared.call.ShardCall.{ShardCall}
-use Rattle.warm_shard_machine.specs.declared.call.ShardReply.{ShardReply}
+use Rattle.warm_shard_machine.specs.declared.calls.ShardCall.{ShardCall}
+use Rattle.warm_shard_machine.specs.declared.calls.ShardReply.{ShardReply}
 use Rattle.warm_concurrent.specs.Attached.{Known, ShardPass, ShardTurn, known_of}
 use Rattle.warm_concurrent.specs.Given.{AreLogs, HasMade, SameGiven, TwoThreadsAreHeld, gave, gave_call, gave_together, log_at}
 use Rattle.warm_shard_machine.specs.Laws.{Log}

@@ -23,10 +23,10 @@ use Rattle.warm_gossip.specs.Clauses.{Goes}
 use Rattle.warm_gossip.specs.State.{NodeState, NodeView, node_view}
 use Rattle.warm_gossip.specs.Victims.{IsEvicted}
 use Rattle.warm_gossip.proofs.VictimLemmas.{KeepsPages, fixes_change, no_frame, victims_are_farthest}
-use Rattle.warm_shard_machine.specs.declared.call.ShardCall.{ShardCall}
-use Rattle.warm_shard_machine.specs.declared.call.ShardCall.TheVariants.{Change, Look, Pin, PinFilled, PinZeroed, Victim, WarmStep}
-use Rattle.warm_shard_machine.specs.declared.call.ShardReply.{ShardReply}
-use Rattle.warm_shard_machine.specs.declared.call.ShardReply.TheVariants.{Changed, Foreign, Looked, Page, Pinned, Refused}
+use Rattle.warm_shard_machine.specs.declared.calls.ShardCall.{ShardCall}
+use Rattle.warm_shard_machine.specs.declared.calls.ShardCall.TheVariants.{Change, Look, Pin, PinFilled, PinZeroed, Victim, WarmStep}
+use Rattle.warm_shard_machine.specs.declared.calls.ShardReply.{ShardReply}
+use Rattle.warm_shard_machine.specs.declared.calls.ShardReply.TheVariants.{Changed, Foreign, Looked, Page, Pinned, Refused}
 use Rattle.warm_concurrent.specs.Attached.{ShardPass, known_of}
 use Rattle.warm_concurrent.specs.Clauses.{AnsweredByShard}
 use Rattle.warm_concurrent.specs.Given.{AnswersAfter, FillsFrame, SharedVictims, VictimsOver, gave}

@@ -9,9 +9,9 @@ use Rattle.warm_frames.specs.declared.message.Message.{Message}
 use Rattle.warm_frames.specs.declared.message.Message.TheVariants.{Entries, Digest, Want}
 use Rattle.warm_gossip.specs.declared.fault.NodeFault.TheVariants.{Memory}
 use Rattle.warm_concurrent.specs.declared.answering.Offered.{Offered}
-use Rattle.warm_shard_machine.specs.declared.call.ShardCall.TheVariants.{Answer, Offer}
-use Rattle.warm_shard_machine.specs.declared.call.ShardReply.{ShardReply}
-use Rattle.warm_shard_machine.specs.declared.call.ShardReply.TheVariants.{Answers, Sent}
+use Rattle.warm_shard_machine.specs.declared.calls.ShardCall.TheVariants.{Answer, Offer}
+use Rattle.warm_shard_machine.specs.declared.calls.ShardReply.{ShardReply}
+use Rattle.warm_shard_machine.specs.declared.calls.ShardReply.TheVariants.{Answers, Sent}
 use Rattle.warm_concurrent.specs.declared.fault.SharedFault.{SharedFault}
 use Rattle.warm_concurrent.specs.declared.fault.SharedFault.TheVariants.{Node}
 use Rattle.warm_concurrent.specs.Attached.{ShardPass}

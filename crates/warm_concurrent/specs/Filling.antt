@@ -2,8 +2,8 @@
 use Rattle.std.specs.Prelude.{◌≡◌, ℕ, List, Result}
 use Rattle.boxcar.specs.declared.tag.Tag.{Tag}
 use Rattle.warm_stamps.specs.declared.PageId.{PageId}
-use Rattle.warm_shard_machine.specs.declared.call.ShardCall.TheVariants.{PinFilled}
-use Rattle.warm_shard_machine.specs.declared.call.ShardReply.{ShardReply}
+use Rattle.warm_shard_machine.specs.declared.calls.ShardCall.TheVariants.{PinFilled}
+use Rattle.warm_shard_machine.specs.declared.calls.ShardReply.{ShardReply}
 use Rattle.warm_concurrent.specs.declared.fault.SharedFault.{SharedFault}
 use Rattle.warm_concurrent.specs.Attached.{ShardPass}
 use Rattle.warm_concurrent.specs.Clauses.{CallEnds}

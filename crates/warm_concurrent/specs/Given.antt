@@ -23,13 +23,13 @@ use Rattle.warm_gossip.specs.State.{NodeState}
 use Rattle.warm_gossip.specs.Victims.{IsEvicted}
 use Rattle.warm_shards.specs.Shards.{AreShards, IsShardCount, of_first_shards, shard_at, whole}
 use Rattle.warm_concurrent.specs.declared.answering.Offered.{Offered}
-use Rattle.warm_shard_machine.specs.declared.call.ShardCall.{ShardCall}
-use Rattle.warm_shard_machine.specs.declared.call.ShardCall.TheVariants.{Absorb, Raise, Pin, Look}
-use Rattle.warm_shard_machine.specs.declared.call.ShardCall.TheVariants.{Change, PinFilled}
-use Rattle.warm_shard_machine.specs.declared.call.ShardCall.TheVariants.{PinZeroed, TakeIn, Victim}
-use Rattle.warm_shard_machine.specs.declared.call.ShardCall.TheVariants.{WarmStep}
-use Rattle.warm_shard_machine.specs.declared.call.ShardReply.{ShardReply}
-use Rattle.warm_shard_machine.specs.declared.call.ShardReply.TheVariants.{Done, Kept, Page}
+use Rattle.warm_shard_machine.specs.declared.calls.ShardCall.{ShardCall}
+use Rattle.warm_shard_machine.specs.declared.calls.ShardCall.TheVariants.{Absorb, Raise, Pin, Look}
+use Rattle.warm_shard_machine.specs.declared.calls.ShardCall.TheVariants.{Change, PinFilled}
+use Rattle.warm_shard_machine.specs.declared.calls.ShardCall.TheVariants.{PinZeroed, TakeIn, Victim}
+use Rattle.warm_shard_machine.specs.declared.calls.ShardCall.TheVariants.{WarmStep}
+use Rattle.warm_shard_machine.specs.declared.calls.ShardReply.{ShardReply}
+use Rattle.warm_shard_machine.specs.declared.calls.ShardReply.TheVariants.{Done, Kept, Page}
 use Rattle.warm_concurrent.specs.declared.fault.SharedFault.{SharedFault}
 use Rattle.warm_concurrent.specs.declared.gossip.NotReceived.{NotReceived}
 use Rattle.warm_concurrent.specs.declared.gossip.NotReceived.TheVariants.{Raising, Taking}

@@ -9,7 +9,6 @@ pub mod Given
 pub mod Answering
 pub mod Raising
 pub mod Copying
-pub mod Asking
 pub mod Retiring
 pub mod Filling
 pub mod Looking

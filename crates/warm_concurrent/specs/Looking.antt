@@ -3,8 +3,8 @@ use Rattle.std.specs.Prelude.{ℕ, List}
 use Rattle.boxcar.specs.declared.tag.Tag.{Tag}
 use Rattle.warm_pool.specs.declared.slot.Slot.{Slot}
 use Rattle.warm_stamps.specs.declared.PageId.{PageId}
-use Rattle.warm_shard_machine.specs.declared.call.ShardCall.TheVariants.{Change, Look}
-use Rattle.warm_shard_machine.specs.declared.call.ShardReply.TheVariants.{Changed, Looked}
+use Rattle.warm_shard_machine.specs.declared.calls.ShardCall.TheVariants.{Change, Look}
+use Rattle.warm_shard_machine.specs.declared.calls.ShardReply.TheVariants.{Changed, Looked}
 use Rattle.warm_concurrent.specs.Attached.{ShardPass}
 use Rattle.warm_concurrent.specs.Clauses.{AnsweredByShard}
 

@@ -3,8 +3,8 @@ use Rattle.std.specs.Prelude.{ℕ, List}
 use Rattle.boxcar.specs.declared.tag.Tag.{Tag}
 use Rattle.warm_devices.specs.Device.{DeviceState}
 use Rattle.warm_gossip.specs.declared.fault.NodeFault.TheVariants.{Pool}
-use Rattle.warm_shard_machine.specs.declared.call.ShardCall.TheVariants.{Retire}
-use Rattle.warm_shard_machine.specs.declared.call.ShardReply.TheVariants.{Refused, Replaced}
+use Rattle.warm_shard_machine.specs.declared.calls.ShardCall.TheVariants.{Retire}
+use Rattle.warm_shard_machine.specs.declared.calls.ShardReply.TheVariants.{Refused, Replaced}
 use Rattle.warm_concurrent.specs.declared.fault.SharedFault.{SharedFault}
 use Rattle.warm_concurrent.specs.declared.fault.SharedFault.TheVariants.{Node, TurnsSpent}
 use Rattle.warm_concurrent.specs.Attached.{ShardPass}

@@ -8,10 +8,10 @@ use Rattle.warm_frames.specs.declared.message.Message.TheVariants.{Entries}
 use Rattle.warm_frames.specs.Limits.{entries_in, horizon_in}
 use Rattle.warm_gossip.specs.declared.fault.NodeFault.TheVariants.{Memory}
 use Rattle.warm_shards.specs.Parts.{part_of_batch, part_of_entries}
-use Rattle.warm_shard_machine.specs.declared.call.ShardCall.TheVariants.{Absorb, Raise, TakeIn}
-use Rattle.warm_shard_machine.specs.declared.call.ShardCall.TheVariants.{WritePages, WriteBack}
-use Rattle.warm_shard_machine.specs.declared.call.ShardCall.{ShardCall}
-use Rattle.warm_shard_machine.specs.declared.call.ShardReply.TheVariants.{Done, Kept}
+use Rattle.warm_shard_machine.specs.declared.calls.ShardCall.TheVariants.{Absorb, Raise, TakeIn}
+use Rattle.warm_shard_machine.specs.declared.calls.ShardCall.TheVariants.{WritePages, WriteBack}
+use Rattle.warm_shard_machine.specs.declared.calls.ShardCall.{ShardCall}
+use Rattle.warm_shard_machine.specs.declared.calls.ShardReply.TheVariants.{Done, Kept}
 use Rattle.warm_concurrent.specs.declared.fault.SharedFault.{SharedFault}
 use Rattle.warm_concurrent.specs.declared.writing.NotWritten.{NotWritten}
 use Rattle.warm_concurrent.specs.declared.writing.NotWritten.TheVariants.{Pages, Devices}

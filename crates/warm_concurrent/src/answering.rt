@@ -6,8 +6,8 @@ ghost use Rattle.warm_concurrent.specs.Answering.{IsPartOf, OfferFails, offer_me
 ghost use Rattle.warm_concurrent.specs.Attached.{AreOf, AreTurns};
 ghost use Rattle.warm_concurrent.specs.Clauses.{CallEnds};
 ghost use Rattle.warm_shard_machine.specs.ShardSteps.{IsOwn, shard_of_bucket};
-ghost use Rattle.warm_shard_machine.specs.declared.call.ShardCall.TheVariants.{Answer, Offer};
-ghost use Rattle.warm_shard_machine.specs.declared.call.ShardReply.TheVariants.{Answers, Sent};
+ghost use Rattle.warm_shard_machine.specs.declared.calls.ShardCall.TheVariants.{Answer, Offer};
+ghost use Rattle.warm_shard_machine.specs.declared.calls.ShardReply.TheVariants.{Answers, Sent};
 
 use crate::fault::SharedFault;
 use crate::history_calls::Stopped;

@@ -4,9 +4,9 @@ ghost use Rattle.warm_shards.specs.Shards.{shard_of};
 ghost use Rattle.warm_concurrent.specs.Attached.{AreOf, AreTurns};
 ghost use Rattle.warm_concurrent.specs.Clauses.{CallEnds};
 ghost use Rattle.warm_concurrent.specs.Whole.{DoneFails, DoneFirst};
-ghost use Rattle.warm_shard_machine.specs.declared.call.ShardCall.TheVariants.{ForgetPages};
-ghost use Rattle.warm_shard_machine.specs.declared.call.ShardCall.TheVariants.{PinZeroed};
-ghost use Rattle.warm_shard_machine.specs.declared.call.ShardReply.TheVariants.{Pinned};
+ghost use Rattle.warm_shard_machine.specs.declared.calls.ShardCall.TheVariants.{ForgetPages};
+ghost use Rattle.warm_shard_machine.specs.declared.calls.ShardCall.TheVariants.{PinZeroed};
+ghost use Rattle.warm_shard_machine.specs.declared.calls.ShardReply.TheVariants.{Pinned};
 ghost use Rattle.warm_concurrent.specs.declared.fault.SharedFault.TheVariants.{PinsFull};
 
 use crate::fault::SharedFault;

@@ -6,8 +6,8 @@ ghost use Rattle.warm_concurrent.specs.Attached.{AreOf, AreTurns};
 ghost use Rattle.warm_concurrent.specs.Clauses.{CallEnds};
 ghost use Rattle.warm_shard_machine.specs.Visits.{ClaimNothing};
 ghost use Rattle.warm_concurrent.specs.Filling.{FilledPinEnds};
-ghost use Rattle.warm_shard_machine.specs.declared.call.ShardCall.TheVariants.{PinFilled};
-ghost use Rattle.warm_shard_machine.specs.declared.call.ShardReply.TheVariants.{Pinned, Refused};
+ghost use Rattle.warm_shard_machine.specs.declared.calls.ShardCall.TheVariants.{PinFilled};
+ghost use Rattle.warm_shard_machine.specs.declared.calls.ShardReply.TheVariants.{Pinned, Refused};
 ghost use Rattle.warm_concurrent.specs.declared.fault.SharedFault.TheVariants as faults;
 
 use crate::fault::SharedFault;

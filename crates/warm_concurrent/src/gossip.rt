@@ -7,8 +7,8 @@ ghost use Rattle.warm_concurrent.specs.Gossip.{CompareFails, Compares, DigestsSt
 ghost use Rattle.warm_concurrent.specs.Gossip.{RequestStops, ShardsReceive, ShardsTakeDigests};
 ghost use Rattle.warm_concurrent.specs.Gossip.{ShardsTakeRequest};
 ghost use Rattle.warm_shard_machine.specs.ShardSteps.{shard_of_bucket};
-ghost use Rattle.warm_shard_machine.specs.declared.call.ShardCall.TheVariants.{Send, SendSince};
-ghost use Rattle.warm_shard_machine.specs.declared.call.ShardReply.TheVariants.{Portion, Sent};
+ghost use Rattle.warm_shard_machine.specs.declared.calls.ShardCall.TheVariants.{Send, SendSince};
+ghost use Rattle.warm_shard_machine.specs.declared.calls.ShardReply.TheVariants.{Portion, Sent};
 
 use crate::answering::{Offered, answer_all, gather};
 use crate::fault::SharedFault;

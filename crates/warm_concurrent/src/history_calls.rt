@@ -4,8 +4,8 @@ ghost use Rattle.std.specs.Prelude.{◌≡◌, ◌<◌, [], length, IfErr, IfOk,
 ghost use Rattle.warm_shards.specs.Shards.{IsShardCount};
 ghost use Rattle.warm_concurrent.specs.Attached.{AreOf, AreTurns};
 ghost use Rattle.warm_concurrent.specs.Clauses.{CallEnds};
-ghost use Rattle.warm_shard_machine.specs.declared.call.ShardCall.TheVariants.{Raise, WarmList};
-ghost use Rattle.warm_shard_machine.specs.declared.call.ShardReply.TheVariants.{Kept, Pages};
+ghost use Rattle.warm_shard_machine.specs.declared.calls.ShardCall.TheVariants.{Raise, WarmList};
+ghost use Rattle.warm_shard_machine.specs.declared.calls.ShardReply.TheVariants.{Kept, Pages};
 ghost use Rattle.warm_concurrent.specs.Raising.{RaisesAll};
 ghost use Rattle.warm_concurrent.specs.Whole.{AbsorbFails, AbsorbsFirst, ArePartsOf, RaiseFails};
 ghost use Rattle.warm_concurrent.specs.Whole.{RaisesFirst};

@@ -2,7 +2,6 @@
 #![tactic(auto)]
 
 mod answering;
-mod asking;
 mod attaching;
 mod copying;
 mod engine_calls;

@@ -5,7 +5,7 @@ ghost use Rattle.warm_shards.specs.Shards.{shard_of};
 ghost use Rattle.warm_concurrent.specs.Attached.{AreOf, AreTurns};
 ghost use Rattle.warm_concurrent.specs.Clauses.{CallFails};
 ghost use Rattle.warm_concurrent.specs.Looking.{ChangesPageAt, LooksAt};
-ghost use Rattle.warm_shard_machine.specs.declared.call.ShardCall.TheVariants.{Change, Look};
+ghost use Rattle.warm_shard_machine.specs.declared.calls.ShardCall.TheVariants.{Change, Look};
 
 use crate::fault::SharedFault;
 use crate::shared::{Attached, SharedShards, visit_or_back};

@@ -5,11 +5,11 @@ ghost use Rattle.warm_shards.specs.Shards.{shard_of};
 ghost use Rattle.warm_concurrent.specs.Attached.{AreOf, AreTurns};
 ghost use Rattle.warm_concurrent.specs.Clauses.{CallEnds, SlotCallEnds, shard_done};
 ghost use Rattle.warm_shard_machine.specs.ShardSteps.{IsDoneCall};
-ghost use Rattle.warm_shard_machine.specs.declared.call.ShardCall.TheVariants.{Pin, Read, Unpin};
-ghost use Rattle.warm_shard_machine.specs.declared.call.ShardCall.TheVariants.{Victim, WarmNext};
-ghost use Rattle.warm_shard_machine.specs.declared.call.ShardCall.TheVariants.{WarmStep, Write};
-ghost use Rattle.warm_shard_machine.specs.declared.call.ShardReply.TheVariants.{Bytes, Loaded};
-ghost use Rattle.warm_shard_machine.specs.declared.call.ShardReply.TheVariants.{Page, Pinned};
+ghost use Rattle.warm_shard_machine.specs.declared.calls.ShardCall.TheVariants.{Pin, Read, Unpin};
+ghost use Rattle.warm_shard_machine.specs.declared.calls.ShardCall.TheVariants.{Victim, WarmNext};
+ghost use Rattle.warm_shard_machine.specs.declared.calls.ShardCall.TheVariants.{WarmStep, Write};
+ghost use Rattle.warm_shard_machine.specs.declared.calls.ShardReply.TheVariants.{Bytes, Loaded};
+ghost use Rattle.warm_shard_machine.specs.declared.calls.ShardReply.TheVariants.{Page, Pinned};
 ghost use Rattle.warm_concurrent.specs.declared.fault.SharedFault.TheVariants.{NoPins, Node};
 ghost use Rattle.warm_concurrent.specs.declared.fault.SharedFault.TheVariants.{PinsFull};
 

@@ -5,8 +5,8 @@ ghost use Rattle.warm_concurrent.specs.Attached.{AreOf, AreTurns, OpenedAs};
 ghost use Rattle.warm_concurrent.specs.Clauses.{AnsweredByShard, Spent};
 ghost use Rattle.warm_concurrent.specs.declared.fault.SharedFault.TheVariants.{TurnsSpent};
 ghost use Rattle.warm_shard_machine.specs.ShardSteps.{MayAnswer};
-ghost use Rattle.warm_shard_machine.specs.declared.call.ShardCall.{ShardCall};
-ghost use Rattle.warm_shard_machine.specs.declared.call.ShardReply.{ShardReply};
+ghost use Rattle.warm_shard_machine.specs.declared.calls.ShardCall.{ShardCall};
+ghost use Rattle.warm_shard_machine.specs.declared.calls.ShardReply.{ShardReply};
 
 use crate::fault::SharedFault;
 use std::marker::Model;

@@ -6,12 +6,12 @@ ghost use Rattle.warm_shards.specs.Shards.{shard_of};
 ghost use Rattle.warm_concurrent.specs.Clauses.{CallEnds, shard_done};
 ghost use Rattle.warm_concurrent.specs.Whole.{DoneFails, DoneFirst, ShardsWriteBack};
 ghost use Rattle.warm_concurrent.specs.Whole.{WriteBackStopsAt};
-ghost use Rattle.warm_shard_machine.specs.declared.call.ShardCall.TheVariants.{WriteBack};
-ghost use Rattle.warm_shard_machine.specs.declared.call.ShardCall.TheVariants.{WritePages};
-ghost use Rattle.warm_shard_machine.specs.declared.call.ShardCall.TheVariants.{FlushDevice};
-ghost use Rattle.warm_shard_machine.specs.declared.call.ShardCall.TheVariants.{WritePage};
-ghost use Rattle.warm_shard_machine.specs.declared.call.ShardCall.TheVariants.{WriteSome};
-ghost use Rattle.warm_shard_machine.specs.declared.call.ShardReply.TheVariants.{Dirty, WasDirty};
+ghost use Rattle.warm_shard_machine.specs.declared.calls.ShardCall.TheVariants.{WriteBack};
+ghost use Rattle.warm_shard_machine.specs.declared.calls.ShardCall.TheVariants.{WritePages};
+ghost use Rattle.warm_shard_machine.specs.declared.calls.ShardCall.TheVariants.{FlushDevice};
+ghost use Rattle.warm_shard_machine.specs.declared.calls.ShardCall.TheVariants.{WritePage};
+ghost use Rattle.warm_shard_machine.specs.declared.calls.ShardCall.TheVariants.{WriteSome};
+ghost use Rattle.warm_shard_machine.specs.declared.calls.ShardReply.TheVariants.{Dirty, WasDirty};
 
 use crate::fault::SharedFault;
 use crate::history_calls::Stopped;

@@ -3,10 +3,10 @@ use Rattle.std.proofs.Common.{◌≡◌, ℕ, refl}
 use Rattle.warm_gossip.specs.declared.call.Call.TheVariants as node_call
 use Rattle.warm_gossip.specs.declared.fault.NodeFault.{NodeFault}
 use Rattle.warm_gossip.specs.State.{NodeState}
-use Rattle.warm_shard_machine.specs.declared.call.ShardCall.{ShardCall}
-use Rattle.warm_shard_machine.specs.declared.call.ShardCall.TheVariants.{Absorb, FlushDevice, ForgetPages, TakeIn, Write, WriteBack, WritePages}
-use Rattle.warm_shard_machine.specs.declared.call.ShardReply.{ShardReply}
-use Rattle.warm_shard_machine.specs.declared.call.ShardReply.TheVariants.{Done, Refused}
+use Rattle.warm_shard_machine.specs.declared.calls.ShardCall.{ShardCall}
+use Rattle.warm_shard_machine.specs.declared.calls.ShardCall.TheVariants.{Absorb, FlushDevice, ForgetPages, TakeIn, Write, WriteBack, WritePages}
+use Rattle.warm_shard_machine.specs.declared.calls.ShardReply.{ShardReply}
+use Rattle.warm_shard_machine.specs.declared.calls.ShardReply.TheVariants.{Done, Refused}
 use Rattle.warm_shard_machine.specs.ShardSteps.{IsDoneCall, IsOwn, MayAnswer, NodeGoes, asked_of, node_reply_of}
 use Rattle.warm_shard_machine.proofs.ShardStepLemmas.{goes_as}
 

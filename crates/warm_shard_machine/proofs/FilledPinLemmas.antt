@@ -9,7 +9,7 @@ use Rattle.warm_gossip.specs.declared.fault.NodeFault.{NodeFault}
 use Rattle.warm_gossip.specs.declared.fault.NodeFault.TheVariants.{Memory, Pool, StaleSlot}
 use Rattle.warm_gossip.specs.Clauses.{Goes, OfPool}
 use Rattle.warm_gossip.specs.State.{NodeState}
-use Rattle.warm_shard_machine.specs.declared.call.ShardReply.TheVariants.{Refused}
+use Rattle.warm_shard_machine.specs.declared.calls.ShardReply.TheVariants.{Refused}
 use Rattle.warm_shard_machine.specs.ShardSteps.{PinFilledStep}
 
 -- a pool never refuses it for its size

@@ -26,10 +26,10 @@ use Rattle.warm_shards.specs.Laws.{BringsOwn}
 use Rattle.warm_shards.specs.Shards.{HasPagesOf, HoldsPagesOf, HoldsShard, shard_of}
 use Rattle.warm_shards.proofs.EngineCalls.{flushed_own, forgotten_own, page_own, retired_own, same_own, zeroed_own}
 use Rattle.warm_shards.proofs.Staying.{failures_stay, steps_stay}
-use Rattle.warm_shard_machine.specs.declared.call.ShardCall.{ShardCall}
-use Rattle.warm_shard_machine.specs.declared.call.ShardCall.TheVariants.{Absorb, Change, Look, Pin, PinFilled, PinZeroed, TakeIn}
-use Rattle.warm_shard_machine.specs.declared.call.ShardReply.{ShardReply}
-use Rattle.warm_shard_machine.specs.declared.call.ShardReply.TheVariants.{Answers, Changed, Copied, Dirty, Done, Foreign, Looked, Page, Pinned, Portion, Refused, Replaced, WasDirty}
+use Rattle.warm_shard_machine.specs.declared.calls.ShardCall.{ShardCall}
+use Rattle.warm_shard_machine.specs.declared.calls.ShardCall.TheVariants.{Absorb, Change, Look, Pin, PinFilled, PinZeroed, TakeIn}
+use Rattle.warm_shard_machine.specs.declared.calls.ShardReply.{ShardReply}
+use Rattle.warm_shard_machine.specs.declared.calls.ShardReply.TheVariants.{Answers, Changed, Copied, Dirty, Done, Foreign, Looked, Page, Pinned, Portion, Refused, Replaced, WasDirty}
 use Rattle.warm_shard_machine.specs.ShardSteps.{Asked, doing, looking, changing, CallGoes, CallStep, IsOwn, NodeGoes, NodeStep, ShardState, ShardStep, Work, calling, writing_pages, writing_some, writing_page, writing_back, flushing, zeroing, filling, naming_next, forgetting, taking_in, answering, sending_since, copying, retiring, asked_of, node_reply_of}
 use Rattle.warm_shard_machine.proofs.ShardStepLemmas.{runs_keep}
 

@@ -16,9 +16,9 @@ use Rattle.warm_gossip.specs.declared.fault.NodeFault.{NodeFault}
 use Rattle.warm_gossip.specs.declared.fault.NodeFault.TheVariants.{Memory, Pool}
 use Rattle.warm_gossip.proofs.Given.{told_is_history}
 use Rattle.warm_frames.specs.declared.message.Message.TheVariants.{Entries}
-use Rattle.warm_shard_machine.specs.declared.call.ShardCall.{ShardCall}
-use Rattle.warm_shard_machine.specs.declared.call.ShardReply.{ShardReply}
-use Rattle.warm_shard_machine.specs.declared.call.ShardReply.TheVariants.{Answers, Changed, Copied, Dirty, Done, Foreign, Looked, Page, Pinned, Portion, Refused, Replaced, WasDirty}
+use Rattle.warm_shard_machine.specs.declared.calls.ShardCall.{ShardCall}
+use Rattle.warm_shard_machine.specs.declared.calls.ShardReply.{ShardReply}
+use Rattle.warm_shard_machine.specs.declared.calls.ShardReply.TheVariants.{Answers, Changed, Copied, Dirty, Done, Foreign, Looked, Page, Pinned, Portion, Refused, Replaced, WasDirty}
 use Rattle.warm_shard_machine.specs.Laws.{CallsAreANodes, ShardIsOfGiven, asked_steps, given_by_reply, given_by_step, given_by_steps, node_steps}
 use Rattle.warm_shard_machine.specs.ShardSteps.{Asked, doing, looking, changing, CallGoes, NodeGoes, NodeStep, ShardState, ShardStep, Work, calling, writing_pages, writing_some, writing_page, writing_back, flushing, zeroing, filling, naming_next, forgetting, taking_in, answering, sending_since, copying, retiring, asked_of, node_reply_of}
 

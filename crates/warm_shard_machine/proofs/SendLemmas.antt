@@ -3,8 +3,8 @@ use denote.RattleType.{RattleType}
 use denote.Param.Send.{IsSend, sendable}
 use Rattle.warm_devices.specs.declared.device.PageDevice.{Ghosts}
 use Rattle.warm_machine.specs.declared.machine.Machine as Machine
-use Rattle.warm_shard_machine.specs.contracts.call.ShardCall as ShardCall
-use Rattle.warm_shard_machine.specs.contracts.call.ShardReply as ShardReply
+use Rattle.warm_shard_machine.specs.contracts.calls.ShardCall as ShardCall
+use Rattle.warm_shard_machine.specs.contracts.calls.ShardReply as ShardReply
 use Rattle.warm_shard_machine.specs.ShardSteps.{ShardState, ShardStep}
 use Rattle.warm_shard_machine.specs.contracts.shard.Shard as Shard
 use Rattle.warm_shard_machine.proofs.shard.Shard.TheSendSync.{the_send}

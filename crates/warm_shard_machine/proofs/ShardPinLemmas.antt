@@ -19,10 +19,10 @@ use Rattle.warm_gossip.specs.declared.fault.NodeFault.TheVariants.{Memory, Pool,
 use Rattle.warm_gossip.specs.Clauses.{NodeWriteBackFails, OfPool, SameView}
 use Rattle.warm_gossip.specs.State.{NodeState, NodeView, node_view}
 use Rattle.warm_machine.specs.Runs.{Runs}
-use Rattle.warm_shard_machine.specs.declared.call.ShardCall.{ShardCall}
-use Rattle.warm_shard_machine.specs.declared.call.ShardCall.TheVariants.{Absorb, Answer, Change, CopyHistory, FlushDevice, ForgetPages, Look, Offer, Pin, PinFilled, PinZeroed, Raise, Read, Retire, Send, SendSince, TakeIn, Unpin, Victim, WarmList, WarmNext, WarmStep, Write, WriteBack, WritePage, WritePages, WriteSome}
-use Rattle.warm_shard_machine.specs.declared.call.ShardReply.{ShardReply}
-use Rattle.warm_shard_machine.specs.declared.call.ShardReply.TheVariants.{Answers, Changed, Copied, Dirty, Done, Foreign, Loaded, Looked, Page, Pinned, Portion, Refused, Replaced, WasDirty}
+use Rattle.warm_shard_machine.specs.declared.calls.ShardCall.{ShardCall}
+use Rattle.warm_shard_machine.specs.declared.calls.ShardCall.TheVariants.{Absorb, Answer, Change, CopyHistory, FlushDevice, ForgetPages, Look, Offer, Pin, PinFilled, PinZeroed, Raise, Read, Retire, Send, SendSince, TakeIn, Unpin, Victim, WarmList, WarmNext, WarmStep, Write, WriteBack, WritePage, WritePages, WriteSome}
+use Rattle.warm_shard_machine.specs.declared.calls.ShardReply.{ShardReply}
+use Rattle.warm_shard_machine.specs.declared.calls.ShardReply.TheVariants.{Answers, Changed, Copied, Dirty, Done, Foreign, Loaded, Looked, Page, Pinned, Portion, Refused, Replaced, WasDirty}
 use Rattle.warm_shard_machine.specs.Laws.{Log}
 use Rattle.warm_shard_machine.specs.Pins.{LeadsTo, PinsAreGiven, pin_by, pool_pins, unpin_by}
 use Rattle.warm_shard_machine.specs.ShardSteps.{CallGoes, NodeGoes, ShardState, ShardStep, asked_of, node_reply_of}

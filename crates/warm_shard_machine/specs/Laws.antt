@@ -8,10 +8,10 @@ use Rattle.warm_gossip.specs.declared.call.Call.{Call}
 use Rattle.warm_gossip.specs.declared.call.Call.TheVariants as node_call
 use Rattle.warm_gossip.specs.declared.call.Reply.{Reply}
 use Rattle.warm_gossip.specs.Given.{given_by_call}
-use Rattle.warm_shard_machine.specs.declared.call.ShardCall.{ShardCall}
-use Rattle.warm_shard_machine.specs.declared.call.ShardReply.{ShardReply}
-use Rattle.warm_shard_machine.specs.declared.call.ShardReply.TheVariants.{Changed, Done, Foreign}
-use Rattle.warm_shard_machine.specs.declared.call.ShardReply.TheVariants.{Looked, Pinned}
+use Rattle.warm_shard_machine.specs.declared.calls.ShardCall.{ShardCall}
+use Rattle.warm_shard_machine.specs.declared.calls.ShardReply.{ShardReply}
+use Rattle.warm_shard_machine.specs.declared.calls.ShardReply.TheVariants.{Changed, Done, Foreign}
+use Rattle.warm_shard_machine.specs.declared.calls.ShardReply.TheVariants.{Looked, Pinned}
 use Rattle.warm_shard_machine.specs.ShardSteps.{Asked, NodeStep, Work, calling, changing, doing}
 use Rattle.warm_shard_machine.specs.ShardSteps.{looking, taking_in, ShardState, ShardStep, asked_of}
 use Rattle.warm_shard_machine.specs.ShardSteps.{node_reply_of}

@@ -35,26 +35,26 @@ use Rattle.warm_gossip.specs.Engine.{KeepsKnown}
 use Rattle.warm_gossip.specs.State.{NodeState, node_view}
 use Rattle.warm_gossip.specs.Step.{IsNextWarm}
 use Rattle.warm_shards.specs.Shards.{no_shard, shard_of}
-use Rattle.warm_shard_machine.specs.declared.call.ShardCall.{ShardCall}
-use Rattle.warm_shard_machine.specs.declared.call.ShardCall.TheVariants.{Absorb, Raise, Pin, Unpin}
-use Rattle.warm_shard_machine.specs.declared.call.ShardCall.TheVariants.{Read, Write, Victim}
-use Rattle.warm_shard_machine.specs.declared.call.ShardCall.TheVariants.{WarmStep, WarmList, Answer}
-use Rattle.warm_shard_machine.specs.declared.call.ShardCall.TheVariants.{Offer, Send, SendSince}
-use Rattle.warm_shard_machine.specs.declared.call.ShardCall.TheVariants.{WritePages, WriteSome}
-use Rattle.warm_shard_machine.specs.declared.call.ShardCall.TheVariants.{WriteBack, Look, Change}
-use Rattle.warm_shard_machine.specs.declared.call.ShardCall.TheVariants.{PinZeroed, ForgetPages}
-use Rattle.warm_shard_machine.specs.declared.call.ShardCall.TheVariants.{TakeIn, CopyHistory}
-use Rattle.warm_shard_machine.specs.declared.call.ShardCall.TheVariants.{Retire, FlushDevice}
-use Rattle.warm_shard_machine.specs.declared.call.ShardCall.TheVariants.{PinFilled, WarmNext}
-use Rattle.warm_shard_machine.specs.declared.call.ShardCall.TheVariants.{WritePage}
+use Rattle.warm_shard_machine.specs.declared.calls.ShardCall.{ShardCall}
+use Rattle.warm_shard_machine.specs.declared.calls.ShardCall.TheVariants.{Absorb, Raise, Pin, Unpin}
+use Rattle.warm_shard_machine.specs.declared.calls.ShardCall.TheVariants.{Read, Write, Victim}
+use Rattle.warm_shard_machine.specs.declared.calls.ShardCall.TheVariants.{WarmStep, WarmList, Answer}
+use Rattle.warm_shard_machine.specs.declared.calls.ShardCall.TheVariants.{Offer, Send, SendSince}
+use Rattle.warm_shard_machine.specs.declared.calls.ShardCall.TheVariants.{WritePages, WriteSome}
+use Rattle.warm_shard_machine.specs.declared.calls.ShardCall.TheVariants.{WriteBack, Look, Change}
+use Rattle.warm_shard_machine.specs.declared.calls.ShardCall.TheVariants.{PinZeroed, ForgetPages}
+use Rattle.warm_shard_machine.specs.declared.calls.ShardCall.TheVariants.{TakeIn, CopyHistory}
+use Rattle.warm_shard_machine.specs.declared.calls.ShardCall.TheVariants.{Retire, FlushDevice}
+use Rattle.warm_shard_machine.specs.declared.calls.ShardCall.TheVariants.{PinFilled, WarmNext}
+use Rattle.warm_shard_machine.specs.declared.calls.ShardCall.TheVariants.{WritePage}
 use Rattle.warm_shard_machine.specs.ToldDevices.{IsTold}
-use Rattle.warm_shard_machine.specs.declared.call.ShardReply.{ShardReply}
-use Rattle.warm_shard_machine.specs.declared.call.ShardReply.TheVariants.{Done, Kept, Pinned, Bytes}
-use Rattle.warm_shard_machine.specs.declared.call.ShardReply.TheVariants.{Page, Loaded, Sent}
-use Rattle.warm_shard_machine.specs.declared.call.ShardReply.TheVariants.{Answers, Foreign, Pages}
-use Rattle.warm_shard_machine.specs.declared.call.ShardReply.TheVariants.{Portion, Dirty, Refused}
-use Rattle.warm_shard_machine.specs.declared.call.ShardReply.TheVariants.{Looked, Changed, Copied}
-use Rattle.warm_shard_machine.specs.declared.call.ShardReply.TheVariants.{Replaced, WasDirty}
+use Rattle.warm_shard_machine.specs.declared.calls.ShardReply.{ShardReply}
+use Rattle.warm_shard_machine.specs.declared.calls.ShardReply.TheVariants.{Done, Kept, Pinned, Bytes}
+use Rattle.warm_shard_machine.specs.declared.calls.ShardReply.TheVariants.{Page, Loaded, Sent}
+use Rattle.warm_shard_machine.specs.declared.calls.ShardReply.TheVariants.{Answers, Foreign, Pages}
+use Rattle.warm_shard_machine.specs.declared.calls.ShardReply.TheVariants.{Portion, Dirty, Refused}
+use Rattle.warm_shard_machine.specs.declared.calls.ShardReply.TheVariants.{Looked, Changed, Copied}
+use Rattle.warm_shard_machine.specs.declared.calls.ShardReply.TheVariants.{Replaced, WasDirty}
 
 -- a shard: how many there are, its number, and its node
 pub record ShardState : Type 0 where

@@ -6,12 +6,12 @@ use Rattle.warm_pool.specs.declared.fault.PoolFault.{PoolFault}
 use Rattle.warm_pool.specs.declared.slot.Slot.{Slot}
 use Rattle.warm_gossip.specs.declared.fault.NodeFault.{NodeFault}
 use Rattle.warm_gossip.specs.declared.fault.NodeFault.TheVariants.{Memory, Pool}
-use Rattle.warm_shard_machine.specs.declared.call.ShardCall.{ShardCall}
-use Rattle.warm_shard_machine.specs.declared.call.ShardCall.TheVariants.{Retire}
-use Rattle.warm_shard_machine.specs.declared.call.ShardReply.{ShardReply}
-use Rattle.warm_shard_machine.specs.declared.call.ShardReply.TheVariants.{Bytes, Changed, Foreign}
-use Rattle.warm_shard_machine.specs.declared.call.ShardReply.TheVariants.{Looked, Pinned, Refused}
-use Rattle.warm_shard_machine.specs.declared.call.ShardReply.TheVariants.{Replaced}
+use Rattle.warm_shard_machine.specs.declared.calls.ShardCall.{ShardCall}
+use Rattle.warm_shard_machine.specs.declared.calls.ShardCall.TheVariants.{Retire}
+use Rattle.warm_shard_machine.specs.declared.calls.ShardReply.{ShardReply}
+use Rattle.warm_shard_machine.specs.declared.calls.ShardReply.TheVariants.{Bytes, Changed, Foreign}
+use Rattle.warm_shard_machine.specs.declared.calls.ShardReply.TheVariants.{Looked, Pinned, Refused}
+use Rattle.warm_shard_machine.specs.declared.calls.ShardReply.TheVariants.{Replaced}
 use Rattle.warm_shard_machine.specs.declared.visitors.Went.{Went}
 use Rattle.warm_shard_machine.specs.declared.visitors.Went.TheVariants as went
 use Rattle.warm_shard_machine.specs.ToldDevices.{IsTold}

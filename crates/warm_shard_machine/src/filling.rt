@@ -3,10 +3,10 @@ ghost use Rattle.std.specs.Prelude.{◌≡◌, ◌≢◌, IfErr, IfOk};
 ghost use Rattle.warm_gossip.specs.declared.fault.NodeFault.TheVariants.{Memory};
 ghost use Rattle.warm_shard_machine.specs.Visits.{ClaimNothing, FillsAs};
 ghost use Rattle.warm_shard_machine.specs.ShardSteps.{PinFilledStep, ShardStep};
-ghost use Rattle.warm_shard_machine.specs.declared.call.ShardCall.TheVariants.{PinFilled};
-ghost use Rattle.warm_shard_machine.specs.declared.call.ShardReply.TheVariants.{Pinned, Refused};
+ghost use Rattle.warm_shard_machine.specs.declared.calls.ShardCall.TheVariants.{PinFilled};
+ghost use Rattle.warm_shard_machine.specs.declared.calls.ShardReply.TheVariants.{Pinned, Refused};
 
-use crate::call::{ShardCall, ShardReply};
+use crate::calls::{ShardCall, ShardReply};
 use crate::shard::{Shard, is_own_page};
 use crate::visitors::{Went, visited};
 use boxcar::tag::Tag;
@@ -52,7 +52,7 @@ pub struct Filling<'a> {
 impl<'a, D: PageDevice + Send> Visit<Shard<D>> for Filling<'a> {
     ghost use Rattle.std.specs.Prelude.{◌≡◌};
     ghost use Rattle.warm_shard_machine.specs.Visits.{ClaimNothing, FillsAs};
-    ghost use Rattle.warm_shard_machine.specs.declared.call.ShardCall.TheVariants.{PinFilled};
+    ghost use Rattle.warm_shard_machine.specs.declared.calls.ShardCall.TheVariants.{PinFilled};
 
     type Output = Went<Slot>;
 

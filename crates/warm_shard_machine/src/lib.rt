@@ -6,7 +6,7 @@
 #![tactic(auto)]
 
 mod boxed_history;
-mod call;
+mod calls;
 mod filling;
 pub mod laws;
 mod lending;
@@ -15,7 +15,7 @@ mod shard;
 mod visitors;
 
 pub use boxed_history::BoxedHistory;
-pub use call::{ShardCall, ShardReply};
+pub use calls::{ShardCall, ShardReply};
 pub use filling::Filling;
 pub use lending::tag_of;
 pub use replacing::Replacing;

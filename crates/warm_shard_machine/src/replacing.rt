@@ -4,7 +4,7 @@ ghost use Rattle.warm_shard_machine.specs.Visits.{ReplacesAs};
 ghost use Rattle.warm_shard_machine.specs.ShardSteps.{ShardStep};
 ghost use Rattle.warm_shard_machine.specs.ToldDevices.{IsTold};
 
-use crate::call::{ShardCall, ShardReply};
+use crate::calls::{ShardCall, ShardReply};
 use crate::shard::Shard;
 use crate::visitors::visited;
 use boxcar::tag::{Names, Tag};

@@ -4,12 +4,12 @@ ghost use Rattle.std.specs.Fn.{FnOnceReturnsAt, FnOnceReturnsAtMut};
 ghost use Rattle.warm_shards.specs.Shards.{shard_of};
 ghost use Rattle.warm_shard_machine.specs.Visits.{ReadsInto, Shows, ShowsBoth, VisitWentAs};
 ghost use Rattle.warm_shard_machine.specs.ShardSteps.{ShardStep};
-ghost use Rattle.warm_shard_machine.specs.declared.call.ShardCall.TheVariants.{Change, Look, Pin};
-ghost use Rattle.warm_shard_machine.specs.declared.call.ShardCall.TheVariants.{Read, Unpin};
-ghost use Rattle.warm_shard_machine.specs.declared.call.ShardReply.TheVariants.{Bytes, Done};
-ghost use Rattle.warm_shard_machine.specs.declared.call.ShardReply.TheVariants.{Pinned};
+ghost use Rattle.warm_shard_machine.specs.declared.calls.ShardCall.TheVariants.{Change, Look, Pin};
+ghost use Rattle.warm_shard_machine.specs.declared.calls.ShardCall.TheVariants.{Read, Unpin};
+ghost use Rattle.warm_shard_machine.specs.declared.calls.ShardReply.TheVariants.{Bytes, Done};
+ghost use Rattle.warm_shard_machine.specs.declared.calls.ShardReply.TheVariants.{Pinned};
 
-use crate::call::{ShardCall, ShardReply};
+use crate::calls::{ShardCall, ShardReply};
 use crate::lending::{Left, Shown, change_in, look_in};
 use crate::shard::{Place, Shard, is_own_page, is_own_place};
 use std::snapshot::Snapshot;
@@ -90,8 +90,8 @@ pub struct Pinning {
 impl<D: PageDevice + Send> Visit<Shard<D>> for Pinning {
     ghost use Rattle.std.specs.Prelude.{◌≡◌, ⊤};
     ghost use Rattle.warm_shard_machine.specs.Visits.{VisitWentAs};
-    ghost use Rattle.warm_shard_machine.specs.declared.call.ShardCall.TheVariants.{Pin};
-    ghost use Rattle.warm_shard_machine.specs.declared.call.ShardReply.TheVariants.{Pinned};
+    ghost use Rattle.warm_shard_machine.specs.declared.calls.ShardCall.TheVariants.{Pin};
+    ghost use Rattle.warm_shard_machine.specs.declared.calls.ShardReply.TheVariants.{Pinned};
 
     type Output = Went<Slot>;
 
@@ -116,8 +116,8 @@ pub struct Unpinning {
 impl<D: PageDevice + Send> Visit<Shard<D>> for Unpinning {
     ghost use Rattle.std.specs.Prelude.{◌≡◌, ⊤};
     ghost use Rattle.warm_shard_machine.specs.Visits.{VisitWentAs};
-    ghost use Rattle.warm_shard_machine.specs.declared.call.ShardCall.TheVariants.{Unpin};
-    ghost use Rattle.warm_shard_machine.specs.declared.call.ShardReply.TheVariants.{Done};
+    ghost use Rattle.warm_shard_machine.specs.declared.calls.ShardCall.TheVariants.{Unpin};
+    ghost use Rattle.warm_shard_machine.specs.declared.calls.ShardReply.TheVariants.{Done};
 
     type Output = Went<()>;
 
@@ -156,7 +156,7 @@ pub struct ReadInto {
 impl<D: PageDevice + Send> Visit<Shard<D>> for Reading {
     ghost use Rattle.std.specs.Prelude.{◌≡◌, ⊤, length};
     ghost use Rattle.warm_shard_machine.specs.Visits.{ReadsInto};
-    ghost use Rattle.warm_shard_machine.specs.declared.call.ShardCall.TheVariants.{Read};
+    ghost use Rattle.warm_shard_machine.specs.declared.calls.ShardCall.TheVariants.{Read};
 
     type Output = ReadInto;
 
@@ -187,7 +187,7 @@ impl<D: PageDevice + Send, T, F: FnOnce(&[u8]) -> T + Drop> Visit<Shard<D>> for 
     ghost use Rattle.std.specs.Fn.{FnOnceReturnsAt};
     ghost use Rattle.warm_shards.specs.Shards.{shard_of};
     ghost use Rattle.warm_shard_machine.specs.Visits.{Shows, VisitWentAs};
-    ghost use Rattle.warm_shard_machine.specs.declared.call.ShardCall.TheVariants.{Look};
+    ghost use Rattle.warm_shard_machine.specs.declared.calls.ShardCall.TheVariants.{Look};
 
     type Output = Went<T>;
 
@@ -218,7 +218,7 @@ impl<D: PageDevice + Send, T, F: FnOnce(&mut [u8]) -> T + Drop> Visit<Shard<D>> 
     ghost use Rattle.std.specs.Prelude.{◌≡◌};
     ghost use Rattle.std.specs.Fn.{FnOnceReturnsAtMut};
     ghost use Rattle.warm_shard_machine.specs.Visits.{ShowsBoth, VisitWentAs};
-    ghost use Rattle.warm_shard_machine.specs.declared.call.ShardCall.TheVariants.{Change};
+    ghost use Rattle.warm_shard_machine.specs.declared.calls.ShardCall.TheVariants.{Change};
 
     type Output = Went<T>;
 

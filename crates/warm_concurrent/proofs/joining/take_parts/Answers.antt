@@ -6,9 +6,9 @@ use Rattle.warm_frames.specs.declared.message.Message.TheVariants.{Entries}
 use Rattle.warm_shards.specs.Parts.{part_of_entries}
 use Rattle.warm_shards.specs.Shards.{shard_of}
 use Rattle.warm_shards.proofs.PartEntries.{part_owned}
-use Rattle.warm_shard_machine.specs.declared.call.ShardCall.{ShardCall}
-use Rattle.warm_shard_machine.specs.declared.call.ShardCall.TheVariants.{TakeIn}
-use Rattle.warm_shard_machine.specs.declared.call.ShardReply.TheVariants.{Done}
+use Rattle.warm_shard_machine.specs.declared.calls.ShardCall.{ShardCall}
+use Rattle.warm_shard_machine.specs.declared.calls.ShardCall.TheVariants.{TakeIn}
+use Rattle.warm_shard_machine.specs.declared.calls.ShardReply.TheVariants.{Done}
 use Rattle.warm_concurrent.specs.Attached.{known_of}
 use Rattle.warm_concurrent.specs.Clauses.{Got}
 use Rattle.warm_concurrent.specs.Whole.{TakesPart, part_call}
