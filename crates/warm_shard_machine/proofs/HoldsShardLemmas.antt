@@ -4,8 +4,7 @@ use Rattle.std.specs.List.{AllByRecursion}
 use Rattle.warm_stamps.specs.declared.PageId.{PageId}
 use Rattle.warm_history.specs.Histories.{HistoryView, entries_of}
 use Rattle.warm_pool.specs.declared.fault.PoolFault.{PoolFault}
-use Rattle.warm_pool.specs.declared.fault.PoolFault.TheVariants.{Fixed, NoDevice, SizeDiffers}
-use Rattle.warm_pool.specs.Forgetting.{ForgetRefused}
+use Rattle.warm_pool.specs.declared.fault.PoolFault.TheVariants.{SizeDiffers}
 use Rattle.warm_pool.specs.Frames.{FrameState}
 use Rattle.warm_pool.specs.Outcomes.{FlushDeviceFails, SettlesDevice, WritePageFails, WritesPageBack}
 use Rattle.warm_pool.specs.State.{PoolState}
@@ -18,8 +17,8 @@ use Rattle.warm_frames.specs.declared.message.Message.TheVariants.{Entries}
 use Rattle.warm_gossip.specs.declared.call.Call.TheVariants as node_call
 use Rattle.warm_gossip.specs.declared.call.Reply.TheVariants as node_reply
 use Rattle.warm_gossip.specs.declared.fault.NodeFault.{NodeFault}
-use Rattle.warm_gossip.specs.declared.fault.NodeFault.TheVariants.{Memory, Pool, StaleSlot}
-use Rattle.warm_gossip.specs.Clauses.{NodeWriteBackFails, OfPool, SameView}
+use Rattle.warm_gossip.specs.declared.fault.NodeFault.TheVariants.{Memory, Pool}
+use Rattle.warm_gossip.specs.Clauses.{NodeWriteBackFails, SameView}
 use Rattle.warm_gossip.specs.Engine.{AsksPool, KeepsKnown}
 use Rattle.warm_gossip.specs.State.{NodeState, node_view}
 use Rattle.warm_shards.specs.Laws.{BringsOwn}
@@ -31,18 +30,9 @@ use Rattle.warm_shard_machine.specs.declared.calls.ShardCall.TheVariants.{Absorb
 use Rattle.warm_shard_machine.specs.declared.calls.ShardReply.{ShardReply}
 use Rattle.warm_shard_machine.specs.declared.calls.ShardReply.TheVariants.{Answers, Changed, Copied, Dirty, Done, Foreign, Looked, Page, Pinned, Portion, Refused, Replaced, WasDirty}
 use Rattle.warm_shard_machine.specs.ShardSteps.{Asked, doing, looking, changing, CallGoes, CallStep, IsOwn, NodeGoes, NodeStep, ShardState, ShardStep, Work, calling, writing_pages, writing_some, writing_page, writing_back, flushing, zeroing, filling, naming_next, forgetting, taking_in, answering, sending_since, copying, retiring, asked_of, node_reply_of}
-use Rattle.warm_shard_machine.proofs.ShardStepLemmas.{runs_keep}
+use Rattle.warm_shard_machine.proofs.ShardStepLemmas.{runs_keep, unforgotten}
 
 -- ---- a node after one step
-
--- nothing was forgotten
-same_pool : (s t : PoolState) (dev from : ℕ) (why : NodeFault)
-    → OfPool (λ fault. ForgetRefused s dev from fault t) why → t ≡ s
-same_pool s t dev from (Pool NoDevice) refused = refused.1
-same_pool s t dev from (Pool Fixed) refused = refused.2
-same_pool s t dev from (Pool _) refused = absurd refused
-same_pool s t dev from Memory refused = absurd refused
-same_pool s t dev from StaleSlot refused = absurd refused
 
 module _ (count i : ℕ) where
   abbrev IsHere : PageId → Type 0
@@ -126,7 +116,7 @@ module _ (count i : ℕ) where
   step_own n m (forgetting dev from) Done brings own step =
       pool_own n m own step.0 (forgotten_own IsHere n m dev from own.resident step.0 step.1).own
   step_own n m (forgetting dev from) (Refused why) brings own step =
-      let same = same_pool n.pool m.pool dev from why step.1 in
+      let same = unforgotten n.pool m.pool dev from why step.1 in
       pool_own n m own step.0 (subst (λ (s : PoolState). HasPagesOf count i (view_of s)) (sym same) own.resident)
   step_own n m (forgetting dev from) r brings own step = absurd step
   -- as a message that brings them is received

@@ -3,8 +3,7 @@ use Rattle.std.proofs.Common.{◌≡◌, ℕ, ◌+◌, List, [], ◌∷◌, map,
 use Rattle.std.proofs.lemmas.List.Sums.{sum_by-cons}
 use Rattle.warm_stamps.specs.declared.PageId.{PageId}
 use Rattle.warm_pool.specs.declared.fault.PoolFault.{PoolFault}
-use Rattle.warm_pool.specs.declared.fault.PoolFault.TheVariants.{Fault, Fixed, NoDevice, SizeDiffers}
-use Rattle.warm_pool.specs.Forgetting.{ForgetRefused}
+use Rattle.warm_pool.specs.declared.fault.PoolFault.TheVariants.{Fault, NoDevice, SizeDiffers}
 use Rattle.warm_pool.specs.Frames.{FrameState}
 use Rattle.warm_pool.specs.Outcomes.{WritePageFails}
 use Rattle.warm_pool.specs.State.{PoolState}
@@ -26,7 +25,7 @@ use Rattle.warm_shard_machine.specs.declared.calls.ShardReply.TheVariants.{Answe
 use Rattle.warm_shard_machine.specs.Laws.{Log}
 use Rattle.warm_shard_machine.specs.Pins.{LeadsTo, PinsAreGiven, pin_by, pool_pins, unpin_by}
 use Rattle.warm_shard_machine.specs.ShardSteps.{CallGoes, NodeGoes, ShardState, ShardStep, asked_of, node_reply_of}
-use Rattle.warm_shard_machine.proofs.ShardStepLemmas.{goes_as}
+use Rattle.warm_shard_machine.proofs.ShardStepLemmas.{goes_as, unforgotten}
 use Rattle.warm_shard_machine.proofs.PoolPinLemmas.{IsCalm, IsFree, Moves, calm_same, forgotten_moves, pin_moves, pool_free, refused_same, retire_refused, retired_moves, same_moves, then_same, unpin_moves, warm_moves, zeroed_moves}
 
 -- the pins of a node's pool changed so
@@ -49,15 +48,6 @@ unseen n m same = ap (λ (v : NodeView). v.pool.frames) same
 
 fails : (n m : NodeState) (why : NodeFault) → NodeWriteBackFails n why m → SeesSame n m
 fails n m why failed = ap (λ (v : PoolView). v.frames) failed.1.1.1.becomes
-
--- nothing was forgotten
-unforgotten : (s t : PoolState) (dev from : ℕ) (why : NodeFault)
-    → OfPool (λ fault. ForgetRefused s dev from fault t) why → t ≡ s
-unforgotten s t dev from (Pool NoDevice) refused = refused.1
-unforgotten s t dev from (Pool Fixed) refused = refused.2
-unforgotten s t dev from (Pool _) refused = absurd refused
-unforgotten s t dev from Memory refused = absurd refused
-unforgotten s t dev from StaleSlot refused = absurd refused
 
 -- the write of a page failed, or the flush of a device
 unwritten : (s t : PoolState) (p : PageId) (why : NodeFault)

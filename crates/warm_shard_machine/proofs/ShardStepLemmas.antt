@@ -1,10 +1,15 @@
 -- What the steps of a shard keep, and what they are of a call of its node.
-use Rattle.std.proofs.Common.{◌≡◌, List, [], ◌∷◌, ◌++◌, Option, Some, None, refl, sym, ap, subst, ◌∙◌}
+use Rattle.std.proofs.Common.{◌≡◌, ℕ, List, [], ◌∷◌, ◌++◌, Option, Some, None, refl, sym, ap, subst, ◌∙◌}
+use Rattle.warm_pool.specs.declared.fault.PoolFault.TheVariants.{Fixed, NoDevice}
+use Rattle.warm_pool.specs.Forgetting.{ForgetRefused}
+use Rattle.warm_pool.specs.State.{PoolState}
 use Rattle.warm_machine.specs.declared.operation.Operation.{Operation}
 use Rattle.warm_machine.specs.Runs.{Runs}
 use Rattle.warm_gossip.specs.declared.call.Call.{Call}
 use Rattle.warm_gossip.specs.declared.call.Reply.{Reply}
-use Rattle.warm_gossip.specs.Clauses.{Goes}
+use Rattle.warm_gossip.specs.declared.fault.NodeFault.{NodeFault}
+use Rattle.warm_gossip.specs.declared.fault.NodeFault.TheVariants.{Memory, Pool, StaleSlot}
+use Rattle.warm_gossip.specs.Clauses.{Goes, OfPool}
 use Rattle.warm_gossip.specs.State.{NodeState}
 use Rattle.warm_shard_machine.specs.declared.calls.ShardCall.{ShardCall}
 use Rattle.warm_shard_machine.specs.declared.calls.ShardReply.{ShardReply}
@@ -55,3 +60,12 @@ pub goes_as : (n m : NodeState) (call : Call) (k : Option Reply) → CallGoes n 
     → GoesAs n call k m
 goes_as n m call None step = step
 goes_as n m call (Some reply) step = step.0
+
+-- nothing was forgotten
+pub unforgotten : (s t : PoolState) (dev from : ℕ) (why : NodeFault)
+    → OfPool (λ fault. ForgetRefused s dev from fault t) why → t ≡ s
+unforgotten s t dev from (Pool NoDevice) refused = refused.1
+unforgotten s t dev from (Pool Fixed) refused = refused.2
+unforgotten s t dev from (Pool _) refused = absurd refused
+unforgotten s t dev from Memory refused = absurd refused
+unforgotten s t dev from StaleSlot refused = absurd refused
