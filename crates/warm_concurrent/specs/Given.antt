@@ -41,6 +41,7 @@ use Rattle.warm_concurrent.specs.Gossip.{ReceiveStops, ShardsReceive}
 use Rattle.warm_concurrent.specs.Laws.{all_of}
 use Rattle.warm_concurrent.specs.Opening.{AreClosed, AreFirst, AreHalved, PassesAreJoined, AreSplit}
 use Rattle.warm_concurrent.specs.Opening.{openings, shards_over}
+use Rattle.warm_shard_machine.specs.Laws.{Log}
 use Rattle.warm_shard_machine.specs.ShardSteps.{ShardState, ShardStep}
 use Rattle.warm_concurrent.specs.Whole.{AbsorbFails, AbsorbsFirst, DoneFirst, JoinFails, JoinsFirst}
 use Rattle.warm_concurrent.specs.Whole.{RaiseFails, RaisesFirst}

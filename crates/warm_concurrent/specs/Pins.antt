@@ -49,6 +49,7 @@ use Rattle.warm_shard_machine.specs.Laws.{Log}
 use Rattle.warm_concurrent.specs.Opening.{AreClosed, AreFirst, AreHalved, AreSplit, PassesAreJoined}
 use Rattle.warm_concurrent.specs.Opening.{openings, shards_over}
 use Rattle.warm_concurrent.specs.Rights.{HasWholeRight}
+use Rattle.warm_shard_machine.specs.Pins.{LeadsTo, pin_by, pins_by, pool_pins, unpin_by, unpins_by}
 use Rattle.warm_concurrent.specs.Whole.{AbsorbsFirst, DoneFirst, RaisesFirst, TakesFirst}
 
 -- Nodes
