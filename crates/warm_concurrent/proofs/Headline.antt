@@ -37,8 +37,11 @@ call_gave S by c Foreign =
     ap (λ (es : List (Operation Work ShardReply)). given_by_steps S es) (foreign_none by (asked_of c))
     ∙ sym (union_none S) ∙ ap (λ T. S ∪ T) (sym (foreign_gave c))
 call_gave S by (Absorb batch) Done = refl
+call_gave S by (Absorb batch) r = sym (union_none S)
 call_gave S by (Raise time) (Kept horizon) = refl
+call_gave S by (Raise time) r = sym (union_none S)
 call_gave S by (TakeIn horizon es) Done = refl
+call_gave S by (TakeIn horizon es) r = sym (union_none S)
 call_gave S by c r = sym (union_none S)
 
 pub shard_gave : (S : ReferenceSet) (log : Log) → given_to_shard S log ≡ S ∪ gave log

@@ -165,7 +165,7 @@ impl<D: PageDevice + Send> SharedShards<D> {
         let Ok(pages) = hottest_of(alloc, &copy, n) else {
             return Err(Stopped {
                 fault: SharedFault::Node(NodeFault::Memory),
-                shard: self.turns.len(),
+                shard: self.count(),
             });
         };
         Ok(pages)
@@ -196,10 +196,10 @@ impl<D: PageDevice + Send> SharedShards<D> {
         ensures pins { attached.new.pins ≡ attached.old.pins }
     {
         let copy = self.history(rt, alloc, attached)?;
-        let Ok(answers) = answer_of(alloc, self.id, &copy, message) else {
+        let Ok(answers) = answer_of(alloc, self.id(), &copy, message) else {
             return Err(Stopped {
                 fault: SharedFault::Node(NodeFault::Memory),
-                shard: self.turns.len(),
+                shard: self.count(),
             });
         };
         Ok(answers)

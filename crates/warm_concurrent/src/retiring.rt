@@ -112,7 +112,8 @@ impl<D: PageDevice + Send> SharedShards<D> {
         ensures given_back { IfErr result (λ unretired. unretired.device ≡ device) }
         ensures pins { attached.new.pins ≡ attached.old.pins }
     {
-        let _was = replace_in(rt, &self.turns, &mut attached.passes, shard, dev, device)?;
+        let was = self.replace(rt, attached, shard, dev, device)?;
+        drop(was);
         Ok(())
     }
 }

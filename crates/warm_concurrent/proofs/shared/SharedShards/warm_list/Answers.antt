@@ -5,9 +5,9 @@ use Rattle.warm_concurrent.proofs.shared.SharedShards.warm_list.Goals as goal
 pub returns-in_default-clause-stopped : goal.returns-in_default-clause-stopped
 returns-in_default-clause-stopped g c =
     let old = c.args.attached.now.passes in
-    let new = c.history.new.passes in
+    let new = c.history.new.attached.passes in
     let copied = c.in_ok-copy.ensures.copied in
-    let same : length old ≡ c.len.result = omega (arith, c.requires.count, c.len.ensures) in
+    let same : length old ≡ c.count.result = omega (arith, c.requires.count, c.count.ensures.value) in
     (copied.0, new, subst (λ n. CopiesFirst copied.0 n old new) same copied.1, inl (omega (arith, same), refl, refl))
 
 pub returns-clause-listed : goal.returns-clause-listed
