@@ -23,16 +23,17 @@ use Rattle.warm_gossip.specs.Clauses.{Goes}
 use Rattle.warm_gossip.specs.State.{NodeState, NodeView, node_view}
 use Rattle.warm_gossip.specs.Victims.{IsEvicted}
 use Rattle.warm_gossip.proofs.VictimLemmas.{KeepsPages, fixes_change, no_frame, victims_are_farthest}
-use Rattle.warm_concurrent.specs.declared.call.ShardCall.{ShardCall}
-use Rattle.warm_concurrent.specs.declared.call.ShardCall.TheVariants.{Change, Look, Pin, PinFilled, PinZeroed, Victim, WarmStep}
-use Rattle.warm_concurrent.specs.declared.call.ShardReply.{ShardReply}
-use Rattle.warm_concurrent.specs.declared.call.ShardReply.TheVariants.{Changed, Foreign, Looked, Page, Pinned, Refused}
+use Rattle.warm_shard_machine.specs.declared.calls.ShardCall.{ShardCall}
+use Rattle.warm_shard_machine.specs.declared.calls.ShardCall.TheVariants.{Change, Look, Pin, PinFilled, PinZeroed, Victim, WarmStep}
+use Rattle.warm_shard_machine.specs.declared.calls.ShardReply.{ShardReply}
+use Rattle.warm_shard_machine.specs.declared.calls.ShardReply.TheVariants.{Changed, Foreign, Looked, Page, Pinned, Refused}
 use Rattle.warm_concurrent.specs.Attached.{ShardPass, known_of}
 use Rattle.warm_concurrent.specs.Clauses.{AnsweredByShard}
-use Rattle.warm_concurrent.specs.Given.{AnswersAfter, FillsFrame, Log, SharedVictims, VictimsOver, gave}
-use Rattle.warm_concurrent.specs.ShardSteps.{CallGoes, CallStep, ShardState, ShardStep, node_reply_of}
+use Rattle.warm_concurrent.specs.Given.{AnswersAfter, FillsFrame, SharedVictims, VictimsOver, gave}
+use Rattle.warm_shard_machine.specs.Laws.{Log}
+use Rattle.warm_shard_machine.specs.ShardSteps.{CallGoes, CallStep, ShardState, ShardStep, node_reply_of}
 use Rattle.warm_concurrent.proofs.Headline.{run_gave}
-use Rattle.warm_concurrent.proofs.Steps.{last_of}
+use Rattle.warm_shard_machine.proofs.ShardStepLemmas.{last_of}
 
 abbrev pages_of : NodeState → PoolView
 pages_of n = view_of n.pool
