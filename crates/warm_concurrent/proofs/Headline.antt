@@ -9,7 +9,7 @@ use Rattle.warm_machine.specs.declared.operation.Operation.{Operation}
 use Rattle.warm_machine.specs.Runs.{Runs}
 use Rattle.warm_gossip.specs.State.{NodeState}
 use Rattle.warm_shards.specs.Shards.{held, no_shard, shard_at, whole}
-use Rattle.warm_shards.proofs.Taking.{last_two}
+use Rattle.warm_shards.proofs.WholeLemmas.{last_two}
 use Rattle.warm_shard_machine.specs.declared.calls.ShardCall.{ShardCall}
 use Rattle.warm_shard_machine.specs.declared.calls.ShardCall.TheVariants.{Absorb, Raise, TakeIn}
 use Rattle.warm_shard_machine.specs.declared.calls.ShardReply.{ShardReply}
