@@ -4,12 +4,12 @@ use Rattle.warm_pool.specs.declared.dirty.DirtyFrame.{DirtyFrame}
 use Rattle.warm_pool.specs.declared.fault.PoolFault.TheVariants.{Fault}
 use Rattle.warm_pool.specs.Calls.{FlushesOnce}
 use Rattle.warm_pool.specs.Forgetting.{ForgetRefused, Forgets, MayForget}
-use Rattle.warm_pool.specs.Keeping.{KeepsFrames, SameButFailures}
+use Rattle.warm_pool.specs.Unchanged.{KeepsFrames, SameButFailures}
 use Rattle.warm_pool.specs.Retiring.{KeepsElsewhere}
 use Rattle.warm_pool.specs.View.{view_of, Holds}
 use Rattle.warm_pool.specs.WritingSome.{FlushRefused, IsDirty, IsNextDirty, IsSettledOn}
-use Rattle.warm_pool.specs.WritingSome.{KeepsOtherDevices, PageFails, SomeFails}
-use Rattle.warm_pool.specs.WritingSome.{WritesBackPage, WritesBackSome}
+use Rattle.warm_pool.specs.WritingSome.{KeepsOtherDevices, PageFails, SomeFails, WritesBackPage}
+use Rattle.warm_pool.specs.WritingSome.{WritesBackSome}
 use Rattle.warm_pool.specs.Zeroing.{LeavesUnread, PinnedZeroed, TakesZeroed, ZeroedRefused}
 use Rattle.warm_gossip.specs.declared.fault.NodeFault.TheVariants.{Pool}
 use Rattle.warm_gossip.specs.Clauses.{SameView}

@@ -12,7 +12,7 @@ use Rattle.warm_pool.specs.declared.fault.PoolFault.TheVariants.{SizeDiffers}
 use Rattle.warm_pool.specs.Filling.{TakesFilled}
 use Rattle.warm_pool.specs.Forgetting.{ForgetRefused, Forgets}
 use Rattle.warm_devices.specs.Device.{DeviceState}
-use Rattle.warm_pool.specs.Keeping.{KeepsBytes, KeepsFrames}
+use Rattle.warm_pool.specs.Unchanged.{KeepsBytes, KeepsFrames}
 use Rattle.warm_pool.specs.Outcomes.{FlushDeviceFails, ReplacesDevice, RetireFails, RetiresDevice}
 use Rattle.warm_pool.specs.Outcomes.{SettlesDevice, UnreadPinFails, WritePageFails, WritesPageBack}
 use Rattle.warm_pool.specs.PageBytes.{IsLent}

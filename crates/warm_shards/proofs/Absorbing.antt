@@ -7,7 +7,7 @@ use Rattle.std.proofs.lemmas.Nat.{ones_le_self}
 use Rattle.warm_stamps.specs.declared.Reference.{Reference}
 use Rattle.warm_history.specs.ReferenceSets.{set_of_list, ◌∪◌}
 use Rattle.warm_history.specs.Histories.{history, references_of}
-use Rattle.warm_pool.specs.Keeping.{KeepsBytes}
+use Rattle.warm_pool.specs.Unchanged.{KeepsBytes}
 use Rattle.warm_pool.specs.View.{view_of}
 use Rattle.warm_gossip.specs.declared.call.Call.TheVariants.{Absorb}
 use Rattle.warm_gossip.specs.declared.call.Reply.TheVariants.{Done, Refused}

@@ -8,7 +8,7 @@ use Rattle.warm_history.specs.ReferenceSets.{ReferenceSet, set_of_list, ◌∪�
 use Rattle.warm_history.specs.Histories.{history, history_of_entries_at, join, references_of}
 use Rattle.warm_history.proofs.HistoryLemmas.{IsHistory-history}
 use Rattle.warm_history.proofs.JoinLemmas.{raised_to_no_later}
-use Rattle.warm_pool.specs.Keeping.{KeepsBytes}
+use Rattle.warm_pool.specs.Unchanged.{KeepsBytes}
 use Rattle.warm_pool.specs.View.{PoolView}
 use Rattle.warm_gossip.specs.Clauses.{Goes, JoinsEntries, SameView}
 use Rattle.warm_gossip.specs.declared.call.Call.TheVariants.{Absorb}

@@ -6,7 +6,7 @@ use Rattle.warm_history.specs.ReferenceSets.{ReferenceSet, ◌∪◌}
 use Rattle.warm_history.specs.Histories.{HistoryView, history, history_of_entries_at, references_of}
 use Rattle.warm_history.proofs.HistoryLemmas.{horizon-history}
 use Rattle.warm_history.proofs.JoinLemmas.{history_first}
-use Rattle.warm_pool.specs.Keeping.{KeepsBytes}
+use Rattle.warm_pool.specs.Unchanged.{KeepsBytes}
 use Rattle.warm_pool.specs.View.{PoolView}
 use Rattle.warm_gossip.specs.Clauses.{JoinsEntries, SameView}
 use Rattle.warm_gossip.specs.State.{NodeState, NodeView}

@@ -2,10 +2,10 @@
 use Rattle.std.specs.Prelude.{◌≡◌, ◌⊎◌, ℕ, ◌<◌, ◌≤◌, false, List, [], length}
 use Rattle.warm_history.specs.ReferenceSets.{with_horizon}
 use Rattle.warm_history.specs.Histories.{history, history_of_entries_at, references_of}
+use Rattle.warm_frame_table.specs.Frames.{nth_frame}
 use Rattle.warm_pool.specs.Calls.{FlushesNone}
 use Rattle.warm_pool.specs.Forgetting.{ForgetRefused, Forgets, MayForget}
-use Rattle.warm_pool.specs.Frames.{nth_frame}
-use Rattle.warm_pool.specs.Keeping.{KeepsBytes}
+use Rattle.warm_pool.specs.Unchanged.{KeepsBytes}
 use Rattle.warm_pool.specs.Retiring.{Emptied}
 use Rattle.warm_pool.specs.State.{IsSettled, PoolState}
 use Rattle.warm_pool.specs.View.{IsFixed, IsUnfixed, view_of}
