@@ -3,7 +3,7 @@ use Rattle.std.proofs.Common.{◌≡◌, ℕ, List, map, Err, refl, sym, subst}
 use Rattle.warm_pool.specs.State.{PoolState}
 use Rattle.warm_pool.specs.View.{view_of}
 use Rattle.warm_pool.specs.Filling.{AreFromDevice}
-use Rattle.warm_pool.proofs.Fills.{given_unsure}
+use Rattle.warm_pool.proofs.FillingLemmas.{given_unsure}
 use Rattle.warm_stamps.specs.declared.PageId.{PageId}
 use Rattle.warm_gossip.specs.declared.fault.NodeFault.TheVariants.{Memory}
 use Rattle.warm_c_base.specs.declared.fd_device.FdDevice.{FdDevice}

@@ -8,7 +8,7 @@ use Rattle.warm_dump.specs.Reading.{IsDump, IsDumpRefused}
 use Rattle.warm_dump.specs.Writing.{StopsWriting}
 use Rattle.warm_frames.specs.declared.message.Message.{Message}
 use Rattle.warm_frames.specs.Encoding.{encoding}
-use Rattle.warm_pool.specs.Keeping.{KeepsBytes}
+use Rattle.warm_pool.specs.Unchanged.{KeepsBytes}
 use Rattle.warm_pool.specs.View.{view_of, IsResident}
 use Rattle.warm_gossip.specs.declared.call.Call.{Call}
 use Rattle.warm_gossip.specs.declared.call.Call.TheVariants.{Absorb, Horizon, Pin, Unpin}

@@ -1,11 +1,11 @@
 -- What the calls write that say what was counted, and which call of a device failed last.
 use Rattle.std.specs.Prelude.{ℕ, ℤ, ◌<◌, ◌≡◌, length, Option, Ok, Err}
+use Rattle.warm_frame_table.specs.Frames.{dirty_count}
 use Rattle.warm_pool.specs.declared.fault.PoolFault.TheVariants.{NoDevice}
 use Rattle.warm_pool.specs.declared.tally.FailedCall.{FailedCall}
-use Rattle.warm_pool.specs.Counting.{resident_pages}
+use Rattle.warm_pool.specs.Residents.{resident_pages}
 use Rattle.warm_pool.specs.State.{nth_device}
 use Rattle.warm_pool.specs.View.{view_of}
-use Rattle.warm_pool.specs.WritingSome.{dirty_count}
 use Rattle.warm_gossip.specs.declared.fault.NodeFault.TheVariants.{Pool}
 use Rattle.warm_c_base.specs.declared.counters.WarmCounters.{WarmCounters}
 use Rattle.warm_c_base.specs.declared.counters.WarmDeviceCounters.{WarmDeviceCounters}

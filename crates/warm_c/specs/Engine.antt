@@ -4,7 +4,7 @@ use Rattle.warm_pool.specs.declared.dirty.DirtyFrame.{DirtyFrame}
 use Rattle.warm_pool.specs.declared.fault.PoolFault.TheVariants.{Fault}
 use Rattle.warm_pool.specs.Calls.{FlushesOnce}
 use Rattle.warm_pool.specs.Forgetting.{ForgetRefused, Forgets, MayForget}
-use Rattle.warm_pool.specs.Keeping.{KeepsFrames, SameButFailures}
+use Rattle.warm_pool.specs.Unchanged.{KeepsFrames, SameButFailures}
 use Rattle.warm_pool.specs.Retiring.{KeepsElsewhere}
 use Rattle.warm_pool.specs.View.{view_of, Holds}
 use Rattle.warm_pool.specs.WritingSome.{FlushRefused, IsDirty, IsNextDirty, IsSettledOn}

@@ -3,7 +3,7 @@ use Rattle.std.specs.Prelude.{ℕ, ◌≡◌, ◌≢◌, List, length, Option, O
 use Rattle.warm_stamps.specs.declared.PageId.{PageId}
 use Rattle.warm_pool.specs.Calls.{FlushesNone, ReadsNone}
 use Rattle.warm_pool.specs.Filling.{TakesFilled}
-use Rattle.warm_pool.specs.Keeping.{KeepsFrames}
+use Rattle.warm_pool.specs.Unchanged.{KeepsFrames}
 use Rattle.warm_pool.specs.Zeroing.{LeavesUnread}
 use Rattle.warm_pool.specs.declared.fault.NewPoolFault.TheVariants.{SizeDiffers}
 use Rattle.warm_pool.specs.declared.fault.PoolFault.TheVariants.{ReadFault}

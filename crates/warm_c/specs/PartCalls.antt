@@ -6,7 +6,7 @@ use Rattle.warm_digest.specs.BucketDigests.{digests_of}
 use Rattle.warm_frames.specs.declared.message.Message.{Message}
 use Rattle.warm_frames.specs.Encoding.{Encodes}
 use Rattle.warm_frames.specs.Reading.{GivesReading, read_frame, reserved_by}
-use Rattle.warm_pool.specs.Keeping.{KeepsBytes}
+use Rattle.warm_pool.specs.Unchanged.{KeepsBytes}
 use Rattle.warm_gossip.specs.declared.call.Call.TheVariants.{Receive}
 use Rattle.warm_gossip.specs.declared.call.Reply.TheVariants.{Answers, Refused}
 use Rattle.warm_gossip.specs.declared.fault.NodeFault.TheVariants.{Memory}

@@ -7,12 +7,12 @@ use Rattle.warm_history.specs.Histories.{HistoryView, StandsFor, references_of}
 use Rattle.warm_rank.specs.Laws.{IsFarthest}
 use Rattle.warm_rank.specs.Ranking.{IsVictim}
 use Rattle.warm_rank.proofs.VictimLemmas.{victim_is_farthest}
+use Rattle.warm_frame_table.specs.Frames.{FrameState}
+use Rattle.warm_frame_table.proofs.ListLemmas.{at_set}
 use Rattle.warm_pool.specs.declared.fault.PoolFault.TheVariants.{SizeDiffers}
 use Rattle.warm_pool.specs.declared.slot.Slot.{Slot}
-use Rattle.warm_pool.specs.Frames.{FrameState}
 use Rattle.warm_pool.specs.View.{FrameView, PoolView, frame_at, frame_view, unfixed_pages, view_of}
 use Rattle.warm_pool.specs.Zeroing.{PinnedZeroed, PutsZeros}
-use Rattle.warm_pool.proofs.Slots.{at_set}
 use Rattle.warm_machine.specs.Runs.{Runs, operation}
 use Rattle.warm_gossip.specs.declared.call.Call.{Call}
 use Rattle.warm_gossip.specs.declared.call.Call.TheVariants as node_call

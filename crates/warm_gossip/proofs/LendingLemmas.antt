@@ -2,14 +2,15 @@
 -- content.
 use Rattle.std.proofs.Common.{◌≡◌, ◌≢◌, ℕ, ◌<◌, true, List, length, set, None, refl, ap, subst, ◌∙◌}
 use Rattle.warm_history.specs.Histories.{HistoryView}
+use Rattle.warm_frame_table.specs.Frames.{nth_frame}
+use Rattle.warm_frame_table.specs.Lending.{refilled}
 use Rattle.warm_pool.specs.declared.slot.Slot.{Slot}
-use Rattle.warm_pool.specs.Frames.{nth_frame}
 use Rattle.warm_pool.specs.Laws.{IsWrittenWhole}
-use Rattle.warm_pool.specs.Lending.{refilled, relent_pool}
+use Rattle.warm_pool.specs.Lending.{relent_pool}
 use Rattle.warm_pool.specs.PageBytes.{MakesDirty}
 use Rattle.warm_pool.specs.State.{PoolState, IsPool, RankedBy}
 use Rattle.warm_pool.specs.View.{view_of, Holds}
-use Rattle.warm_pool.proofs.Lents.{length-refilled, lent_page, lent_page_at, refilled_whole}
+use Rattle.warm_pool.proofs.LendingLemmas.{length-refilled, lent_page, lent_page_at, refilled_whole}
 use Rattle.warm_gossip.specs.declared.call.Call.TheVariants.{Write}
 use Rattle.warm_gossip.specs.declared.call.Reply.TheVariants.{Done}
 use Rattle.warm_gossip.specs.declared.warm_step.WarmUp.{WarmUp}

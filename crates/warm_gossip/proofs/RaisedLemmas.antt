@@ -20,7 +20,7 @@ use Rattle.warm_rank.specs.Keys.{rank_key}
 use Rattle.warm_rank.specs.Relisting.{RaisesOnly}
 use Rattle.warm_rank.proofs.Outranked.{contains_has, has_contains, has_either}
 use Rattle.warm_rank.proofs.RaisedLemmas.{raises_alike, raises_more, taking_in_raises}
-use Rattle.warm_pool.specs.Frames.{nth_frame}
+use Rattle.warm_frame_table.specs.Frames.{nth_frame}
 use Rattle.warm_pool.specs.Refreshing.{AgreeOutside}
 use Rattle.warm_pool.specs.State.{PoolState, RankedBy}
 use Rattle.warm_pool.specs.View.{PoolView, view_of}

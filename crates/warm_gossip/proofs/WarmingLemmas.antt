@@ -8,7 +8,7 @@ use Rattle.warm_rank.specs.Keys.{ranked_page}
 use Rattle.warm_rank.specs.Relisting.{WereHottest}
 use Rattle.warm_pool.specs.declared.fault.PoolFault.{PoolFault}
 use Rattle.warm_pool.specs.declared.fault.PoolFault.TheVariants.{Fault, Fixed, NoDevice, SizeDiffers}
-use Rattle.warm_pool.specs.Keeping.{FailsAt}
+use Rattle.warm_pool.specs.Unchanged.{FailsAt}
 use Rattle.warm_pool.specs.Retiring.{RetireRefused, Retired}
 use Rattle.warm_pool.specs.View.{FrameView, PoolView}
 use Rattle.warm_gossip.specs.declared.warm_step.WarmUp.{WarmUp}

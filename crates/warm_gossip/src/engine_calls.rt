@@ -8,7 +8,7 @@
 ghost use Rattle.std.specs.Prelude.{◌≡◌, IfErr, IfOk, OnOk, length};
 ghost use Rattle.warm_pool.specs.Filling.{AreFromDevice, TakesFilled};
 ghost use Rattle.warm_pool.specs.Forgetting.{ForgetRefused, Forgets, MayForget};
-ghost use Rattle.warm_pool.specs.Keeping.{KeepsRanks};
+ghost use Rattle.warm_pool.specs.Unchanged.{KeepsRanks};
 ghost use Rattle.warm_pool.specs.Outcomes.{FlushDeviceFails, SettlesDevice, UnreadPinFails};
 ghost use Rattle.warm_pool.specs.Outcomes.{WritePageFails, WriteSomeFails, WritesPageBack};
 ghost use Rattle.warm_pool.specs.Outcomes.{WritesSomeBack, ZeroesPage};

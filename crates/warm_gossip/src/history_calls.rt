@@ -6,7 +6,7 @@ ghost use Rattle.warm_gossip.specs.declared.call.Reply.TheVariants.{Sent, Answer
 ghost use Rattle.warm_gossip.specs.declared.fault.NodeFault.TheVariants.{Memory};
 ghost use Rattle.warm_peer.specs.Answers.{IsAnswer};
 ghost use Rattle.warm_peer.specs.Since.{BringsHeld, HasMoreSince, sent_since};
-ghost use Rattle.warm_pool.specs.Keeping.{KeepsBytes};
+ghost use Rattle.warm_pool.specs.Unchanged.{KeepsBytes};
 ghost use Rattle.warm_pool.specs.State.{RankedBy};
 ghost use Rattle.warm_pool.specs.View.{view_of};
 ghost use Rattle.warm_gossip.specs.Clauses.{Answered, DevicesAfter, DevicesAnswered, Goes, Joins};

@@ -1,6 +1,6 @@
 //! The calls on a node's pool.
 ghost use Rattle.std.specs.Prelude.{◌≡◌, length, IfErr, IfOk, OnErr, OnOk};
-ghost use Rattle.warm_pool.specs.Keeping.{KeepsRanks};
+ghost use Rattle.warm_pool.specs.Unchanged.{KeepsRanks};
 ghost use Rattle.warm_pool.specs.Outcomes.{ReplacesDevice, RetireFails, RetiresDevice};
 ghost use Rattle.warm_pool.specs.State.{IsSettled};
 ghost use Rattle.warm_pool.specs.WritingBack.{WriteBackFails};

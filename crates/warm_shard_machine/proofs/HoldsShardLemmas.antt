@@ -5,7 +5,7 @@ use Rattle.warm_stamps.specs.declared.PageId.{PageId}
 use Rattle.warm_history.specs.Histories.{HistoryView, entries_of}
 use Rattle.warm_pool.specs.declared.fault.PoolFault.{PoolFault}
 use Rattle.warm_pool.specs.declared.fault.PoolFault.TheVariants.{SizeDiffers}
-use Rattle.warm_pool.specs.Frames.{FrameState}
+use Rattle.warm_frame_table.specs.Frames.{FrameState}
 use Rattle.warm_pool.specs.Outcomes.{FlushDeviceFails, SettlesDevice, WritePageFails, WritesPageBack}
 use Rattle.warm_pool.specs.State.{PoolState}
 use Rattle.warm_pool.specs.View.{frame_view, view_of}

@@ -5,7 +5,7 @@ use Rattle.warm_stamps.specs.declared.PageId.{PageId}
 use Rattle.warm_pool.specs.declared.slot.Slot.{Slot}
 use Rattle.warm_pool.specs.PageBytes.{IsLent}
 use Rattle.warm_pool.specs.Pinning.{AddsFix, CanPinAgain, unpinned}
-use Rattle.warm_pool.specs.Keeping.{KeepsBytes}
+use Rattle.warm_pool.specs.Unchanged.{KeepsBytes}
 use Rattle.warm_pool.specs.Lending.{relent_pool}
 use Rattle.warm_pool.specs.State.{IsPool, PoolState}
 use Rattle.warm_pool.specs.View.{FrameView, PoolView, frame_at, view_of, Holds}

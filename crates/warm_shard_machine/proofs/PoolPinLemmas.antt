@@ -5,19 +5,20 @@ use Rattle.std.proofs.lemmas.List.Sums.{sum_by-cons, sum_by-set}
 use Rattle.warm_stamps.specs.declared.PageId.{PageId}
 use Rattle.warm_history.specs.Histories.{HistoryView}
 use Rattle.warm_devices.specs.Device.{DeviceState}
+use Rattle.warm_frame_table.specs.Frames.{FrameState}
+use Rattle.warm_frame_table.specs.FrameSteps.{vacated}
+use Rattle.warm_frame_table.specs.Selection.{is_from, is_on}
+use Rattle.warm_frame_table.proofs.ListLemmas.{at_set}
 use Rattle.warm_pool.specs.declared.fault.PoolFault.{PoolFault}
 use Rattle.warm_pool.specs.declared.fault.PoolFault.TheVariants.{NoDevice, NoPage, AllFixed, ReadFault, WriteBack, FixesFull, OutOfPage, Fixed, Fault, SizeDiffers}
 use Rattle.warm_pool.specs.declared.slot.Slot.{Slot}
 use Rattle.warm_pool.specs.Forgetting.{Forgets}
-use Rattle.warm_pool.specs.Frames.{FrameState, vacated}
 use Rattle.warm_pool.specs.Pinning.{AddsFix, LoadRefused, Pinned as PinnedIn, PinRefused, PutRefused, PutsIn, unpinned}
 use Rattle.warm_pool.specs.Retiring.{RetireRefused, Retired, emptied}
 use Rattle.warm_pool.specs.State.{IsPool, PoolState}
 use Rattle.warm_pool.specs.View.{FrameView, Holds, PoolView, frame_at, frame_view, view_of}
-use Rattle.warm_pool.specs.WritingBack.{is_from, is_on}
 use Rattle.warm_pool.specs.Zeroing.{PinnedZeroed}
 use Rattle.warm_pool.proofs.Bytes.{frame_seen}
-use Rattle.warm_pool.proofs.Slots.{at_set}
 use Rattle.warm_gossip.specs.declared.call.Call.{Call}
 use Rattle.warm_gossip.specs.declared.call.Call.TheVariants.{Absorb, Send, Offer, Receive, Horizon, Pin, Unpin, Read, Write, Victim, WarmList, WarmStep, Restart}
 use Rattle.warm_gossip.specs.declared.call.Reply.{Reply}

@@ -4,7 +4,7 @@ use Rattle.std.proofs.lemmas.List.Sums.{sum_by-cons}
 use Rattle.warm_stamps.specs.declared.PageId.{PageId}
 use Rattle.warm_pool.specs.declared.fault.PoolFault.{PoolFault}
 use Rattle.warm_pool.specs.declared.fault.PoolFault.TheVariants.{Fault, NoDevice, SizeDiffers}
-use Rattle.warm_pool.specs.Frames.{FrameState}
+use Rattle.warm_frame_table.specs.Frames.{FrameState}
 use Rattle.warm_pool.specs.Outcomes.{WritePageFails}
 use Rattle.warm_pool.specs.State.{PoolState}
 use Rattle.warm_pool.specs.View.{PoolView, frame_view, view_of}

@@ -12,7 +12,8 @@ use Rattle.warm_pool.specs.declared.fault.PoolFault.TheVariants.{SizeDiffers}
 use Rattle.warm_pool.specs.Filling.{TakesFilled}
 use Rattle.warm_pool.specs.Forgetting.{ForgetRefused, Forgets}
 use Rattle.warm_devices.specs.Device.{DeviceState}
-use Rattle.warm_pool.specs.Keeping.{KeepsBytes, KeepsFrames}
+use Rattle.warm_pool.specs.Unchanged.{KeepsBytes}
+use Rattle.warm_pool.specs.Unchanged.{KeepsFrames}
 use Rattle.warm_pool.specs.Outcomes.{FlushDeviceFails, ReplacesDevice, RetireFails, SettlesDevice}
 use Rattle.warm_pool.specs.Outcomes.{UnreadPinFails, WritePageFails, WritesPageBack}
 use Rattle.warm_pool.specs.PageBytes.{IsLent}

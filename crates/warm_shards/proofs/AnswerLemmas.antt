@@ -11,7 +11,7 @@ use Rattle.warm_frames.specs.Digests.{digest_at}
 use Rattle.warm_frames.specs.declared.layout.TheConstants.{MAX_ENTRIES}
 use Rattle.warm_frames.specs.declared.message.Message.{Message}
 use Rattle.warm_frames.specs.declared.message.Message.TheVariants.{Digest, Entries, Want}
-use Rattle.warm_pool.specs.Keeping.{KeepsBytes}
+use Rattle.warm_pool.specs.Unchanged.{KeepsBytes}
 use Rattle.warm_pool.specs.View.{PoolView}
 use Rattle.warm_gossip.specs.declared.call.Call.TheVariants.{Offer, Send}
 use Rattle.warm_gossip.specs.declared.call.Reply.TheVariants.{Refused, Sent}

@@ -14,7 +14,7 @@ use Rattle.warm_history.proofs.HistoryLemmas.{IsHistory-history, horizon-history
 use Rattle.warm_rank.specs.Ranking.{eviction_cmp, hottest_pages}
 use Rattle.warm_rank.proofs.EvictionLemmas.{eviction_order}
 use Rattle.warm_pool.specs.declared.slot.Slot.{Slot}
-use Rattle.warm_pool.specs.Keeping.{KeepsBytes}
+use Rattle.warm_pool.specs.Unchanged.{KeepsBytes}
 use Rattle.warm_pool.specs.Pinning.{PutsIn}
 use Rattle.warm_pool.specs.State.{PoolState}
 use Rattle.warm_pool.specs.View.{PoolView, frame_at, view_of}

@@ -9,15 +9,17 @@ use Rattle.std.specs.List.{AllByRecursion}
 use Rattle.warm_stamps.specs.declared.PageId.{PageId}
 use Rattle.warm_history.specs.ReferenceSets.{set_of_list, with_horizon, ◌∪◌}
 use Rattle.warm_history.specs.Histories.{HistoryView, IsHistory, entries_of, history, history_of_entries, history_of_entries_at, references_of}
+use Rattle.warm_frame_table.specs.Frames.{FrameState, nth_frame, dirty_count}
+use Rattle.warm_frame_table.specs.FrameSteps.{cleaned}
+use Rattle.warm_frame_table.specs.Selection.{is_from}
+use Rattle.warm_frame_table.proofs.CountLemmas.{count_most}
 use Rattle.warm_pool.specs.declared.fault.PoolFault.TheVariants.{Fault, Fixed, NoDevice}
 use Rattle.warm_pool.specs.Forgetting.{AreUnfixedFrom, ForgetRefused, MayForget}
-use Rattle.warm_pool.specs.Frames.{FrameState, cleaned, nth_frame}
 use Rattle.warm_pool.specs.Retiring.{Emptied, emptied}
 use Rattle.warm_pool.specs.State.{IsPool, PoolState, nth_device}
 use Rattle.warm_pool.specs.View.{FrameView, IsUnfixed, PoolView, frame_at, frame_view, view_of}
-use Rattle.warm_pool.specs.WritingBack.{WriteBackFails, cleaned_to, is_from}
-use Rattle.warm_pool.specs.WritingSome.{CleansFirst, dirty_count}
-use Rattle.warm_pool.proofs.SomeLemmas.{count_most}
+use Rattle.warm_pool.specs.WritingBack.{WriteBackFails, cleaned_to}
+use Rattle.warm_pool.specs.WritingSome.{CleansFirst}
 use Rattle.warm_gossip.specs.declared.call.Call.TheVariants.{Restart}
 use Rattle.warm_gossip.specs.declared.call.Reply.TheVariants.{Done, Refused}
 use Rattle.warm_gossip.specs.declared.fault.NodeFault.{NodeFault}

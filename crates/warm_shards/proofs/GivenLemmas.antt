@@ -11,7 +11,7 @@ use Rattle.warm_history.specs.ReferenceSets.{ReferenceSet, set_of_list, ◌∪�
 use Rattle.warm_history.specs.Histories.{HistoryView, IsHistory, history, history_of_entries_at, references_of}
 use Rattle.warm_history.proofs.HistoryLemmas.{horizon-history}
 use Rattle.warm_history.proofs.JoinLemmas.{both_assoc, history_first, raised_to_no_later}
-use Rattle.warm_pool.specs.Keeping.{KeepsBytes}
+use Rattle.warm_pool.specs.Unchanged.{KeepsBytes}
 use Rattle.warm_pool.specs.View.{view_of}
 use Rattle.warm_gossip.specs.declared.call.Call.TheVariants.{Absorb}
 use Rattle.warm_gossip.specs.declared.fault.NodeFault.{NodeFault}

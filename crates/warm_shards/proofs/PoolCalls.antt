@@ -3,9 +3,10 @@ use Rattle.std.proofs.Common.{◌≡◌, ℕ, ◌<◌, List, [], length, set, ge
 use Rattle.std.specs.Prelude.{IfErr, OnOk}
 use Rattle.std.proofs.Math.Seq.{map-set_same}
 use Rattle.warm_stamps.specs.declared.PageId.{PageId}
+use Rattle.warm_frame_table.specs.Frames.{fresh_frame, nth_frame}
+use Rattle.warm_frame_table.specs.Lending.{relent}
 use Rattle.warm_pool.specs.declared.slot.Slot.{Slot}
-use Rattle.warm_pool.specs.Frames.{fresh_frame, nth_frame}
-use Rattle.warm_pool.specs.Lending.{relent, relent_pool}
+use Rattle.warm_pool.specs.Lending.{relent_pool}
 use Rattle.warm_pool.specs.State.{PoolState}
 use Rattle.warm_pool.specs.View.{FrameView, PoolView, frame_at, frame_view, view_of}
 use Rattle.warm_gossip.specs.declared.call.Call.{Call}

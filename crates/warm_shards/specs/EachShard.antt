@@ -3,7 +3,7 @@ use Rattle.std.specs.Prelude.{◌≡◌, ◌⊎◌, ℕ, ◌<◌, ◌≤◌, fal
 use Rattle.warm_history.specs.Histories.{history_of_entries_at}
 use Rattle.warm_pool.specs.Calls.{FlushesNone}
 use Rattle.warm_pool.specs.Forgetting.{ForgetRefused, Forgets, MayForget}
-use Rattle.warm_pool.specs.Frames.{nth_frame}
+use Rattle.warm_frame_table.specs.Frames.{nth_frame}
 use Rattle.warm_pool.specs.Retiring.{Emptied}
 use Rattle.warm_pool.specs.State.{IsSettled, PoolState}
 use Rattle.warm_pool.specs.View.{IsFixed, IsUnfixed, view_of}

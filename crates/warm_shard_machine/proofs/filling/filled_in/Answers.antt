@@ -1,6 +1,6 @@
 use Rattle.std.proofs.Common.{◌≡◌, ◌∙◌, length, ap}
 use Rattle.std.proofs.lemmas.Result.{err_from_is_err_and}
-use Rattle.warm_pool.proofs.Fills.{given_unsure}
+use Rattle.warm_pool.proofs.FillingLemmas.{given_unsure}
 use Rattle.warm_shard_machine.proofs.FilledPinLemmas.{filled_not_memory, filled_refused}
 use Rattle.warm_shard_machine.proofs.filling.filled_in.Goals as goal
 
