@@ -310,10 +310,7 @@ rank_send_batch(int i)
 	rank_clear_slot(i, true);
 }
 
-/*
- * How many pages are to be warm: as many as there are buffers, while one is free.  The smallest
- * pools have no room for it.
- */
+/* How many pages are to be warm: all, while a buffer is free.  The smallest pools have no room. */
 static Size
 rank_most_wanted(void)
 {
