@@ -314,7 +314,8 @@ rank_send_batch(int i)
 static Size
 rank_most_wanted(void)
 {
-	double		fraction = sp_fraction > 0 && have_free_buffer() ? 1.0 : sp_fraction;
+	bool		all = sp_stats.is_warming || (sp_fraction > 0 && have_free_buffer());
+	double		fraction = all ? 1.0 : sp_fraction;
 
 	return Min((Size) (fraction * NBuffers), (Size) Max(NBuffers - BUFFERS_OF_REPLAY, 0));
 }
