@@ -36,6 +36,7 @@ static HTAB *unloadable = NULL;
 static uint64 round_at;			/* when the last round began */
 static double load_allowance;	/* pages that may be read now */
 static bool is_warm;
+static bool is_filling;			/* each round found a free buffer */
 
 /* The ranking: it is made again where the history has changed. */
 static MemoryContext ranking = NULL;
@@ -161,6 +162,7 @@ sp_rank_reset(void)
 	round_at = sp_us();
 	load_allowance = 0;
 	is_warm = false;
+	is_filling = true;
 	sp_stats.wanted = sp_stats.resident = sp_stats.unloadable = 0;
 }
 
@@ -310,11 +312,11 @@ rank_send_batch(int i)
 	rank_clear_slot(i, true);
 }
 
-/* How many pages are to be warm: all, while a buffer is free.  The smallest pools have no room. */
+/* How many pages are to be warm: all, until no buffer is free.  The smallest pools have no room. */
 static Size
 rank_most_wanted(void)
 {
-	bool		all = sp_stats.is_warming || (sp_fraction > 0 && have_free_buffer());
+	bool		all = sp_stats.is_warming || (is_filling && sp_fraction > 0);
 	double		fraction = all ? 1.0 : sp_fraction;
 
 	return Min((Size) (fraction * NBuffers), (Size) Max(NBuffers - BUFFERS_OF_REPLAY, 0));
@@ -380,10 +382,7 @@ rank_find_buffers(void)
 	}
 }
 
-/*
- * Raises the usage count of a buffer from 0, where it has that page still.  More would keep a page
- * that nobody uses after a takeover through several turns of the clock.
- */
+/* Raises a count of 0 to 1, where the buffer has that page still.  More would last too long. */
 static void
 rank_touch_buffer(int buffer, const SpPage *page)
 {
@@ -478,6 +477,7 @@ sp_round(void)
 	sp_stats.others_wait = false;
 	for (int i = 0; i < sp_shared->loader_count; i++)
 		rank_open_slot(i);
+	is_filling = is_filling && have_free_buffer();
 	rank_list_pages();
 	rank_find_buffers();
 	rank_visit_pages();
