@@ -205,22 +205,22 @@ int node_pin_zeroed(node *of, node_page page, node_slot *slot) {
     return fake_out(of, WARM_OK);
 }
 
-int node_lend(node *of, node_slot slot, const uint8_t **bytes) {
+int node_bytes(node *of, node_slot slot, const uint8_t **bytes) {
     fake_frame *frame = fake_pinned(fake_in(of), slot);
     if (frame != NULL) *bytes = frame->bytes;
     return fake_out(of, frame != NULL ? WARM_OK : WARM_STALE_SLOT);
 }
 
-int node_lend_mut(node *of, node_slot slot, uint8_t **bytes) {
+int node_bytes_mut(node *of, node_slot slot, uint8_t **bytes) {
     fake_frame *frame = fake_pinned(fake_in(of), slot);
     if (frame != NULL) *bytes = frame->bytes;
     if (frame != NULL) frame->is_dirty = true;
     return fake_out(of, frame != NULL ? WARM_OK : WARM_STALE_SLOT);
 }
 
-int node_pin_lend(node *of, node_page page, node_slot *slot, const uint8_t **bytes) {
+int node_pin_bytes(node *of, node_page page, node_slot *slot, const uint8_t **bytes) {
     int status = node_pin(of, page, slot);
-    return status == WARM_OK ? node_lend(of, *slot, bytes) : status;
+    return status == WARM_OK ? node_bytes(of, *slot, bytes) : status;
 }
 
 int node_unpin(node *of, node_slot slot) {
@@ -328,7 +328,7 @@ int node_write_back_page(node *of, node_page page, bool *written) {
     return fake_out(of, WARM_OK);
 }
 
-int node_flush(node *of, uint16_t dev) {
+int node_flush_device(node *of, uint16_t dev) {
     fake *its = fake_in(of);
     if (dev >= its->device_count) return fake_out(of, WARM_NO_DEVICE);
     for (size_t at = 0; at < its->frames; at++)
@@ -350,7 +350,7 @@ static void fake_forget(fake *its, uint16_t dev, uint64_t from) {
             its->at[at].is_in = its->at[at].is_dirty = false;
 }
 
-int node_forget(node *of, uint16_t dev, uint64_t from) {
+int node_forget_pages(node *of, uint16_t dev, uint64_t from) {
     fake *its = fake_in(of);
     if (dev >= its->device_count) return fake_out(of, WARM_NO_DEVICE);
     if (fake_has_pins(its, dev, from)) return fake_out(of, WARM_PINNED);
@@ -377,7 +377,7 @@ int node_replace(node *of, uint16_t dev, const node_device *device) {
     fake_out(of, WARM_OK);
     if (!has_memory) return WARM_MEMORY;
     if (is_pinned) return WARM_PINNED;
-    int status = node_flush(of, dev);
+    int status = node_flush_device(of, dev);
     if (status != WARM_OK) return status;
     fake_forget(its, dev, 0);
     its->devices[dev] = *device;
@@ -425,7 +425,7 @@ int node_absorb(node *of, const node_reference *references, size_t count) {
     return fake_out(of, WARM_OK);
 }
 
-int node_horizon(node *of, uint64_t time, uint64_t *horizon) {
+int node_raise(node *of, uint64_t time, uint64_t *horizon) {
     fake *its = fake_in(of);
     if (its->horizon < time) its->horizon = time;
     *horizon = its->horizon;

@@ -372,7 +372,7 @@ static const record *held_by(const opened *its, const shard *in, holds *of, node
 bool pin_held(opened *its, shard *in, node_slot slot) {
     const uint8_t *bytes;
     const record *at = held_by(its, in, its->holds, slot);
-    if (at == NULL && node_lend(&in->node, slot, &bytes) == WARM_OK) return false;
+    if (at == NULL && node_bytes(&in->node, slot, &bytes) == WARM_OK) return false;
     for (holds *of = atomic_load(&its->of->holds); at == NULL && of != NULL; of = of->next) {
         at = held_by(its, in, of, slot);
     }

@@ -1,7 +1,8 @@
 /*
- * layouts.h: what the types of nodes.h are in the proved part (crates/warm_c/src/values.rt,
- * counters.rt, handle.rt, peer_handle.rt and frame_parts.rt), and those of include/warm.h in every
- * program that was built with it: a change here needs a new SONAME. Not installed.
+ * layouts.h: what the types of nodes.h are in the proved part (crates/warm_c_base/src/values.rt and
+ * counters.rt; crates/warm_c/src/handle.rt, peer_handle.rt and frame_parts.rt), and those of
+ * include/warm.h in every program that was built with it: a change here needs a new SONAME. Not
+ * installed.
  */
 #ifndef LAYOUTS_H
 #define LAYOUTS_H

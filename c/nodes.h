@@ -3,9 +3,10 @@
  *
  * A replica has one node for each shard. Each function below is proved of one node, or of no node
  * at all; the locks of shards, and which node is asked, are in shards.h. What a function above
- * "Parts" does of a node, include/warm.h says of a replica: proved.h has the names that differ, and
- * how the types here become those there. Statuses have the same numbers, and what the header says
- * of refused calls and of pointers holds for all of them.
+ * "Parts" does of a node, include/warm.h says of a replica: node_NAME is warm_NAME there, but
+ * node_victim is warm_victims and node_close is warm_abandon. proved.h has how the types here
+ * become those there. Statuses have the same numbers, and what the header says of refused calls and
+ * of pointers holds for all of them.
  *
  * One call at a time uses a node. The shard of a slot that a function writes is 0; that of a slot
  * that is passed is not looked at. A message is called a frame here, as the proved part calls it.
@@ -67,18 +68,16 @@ int node_pin_zeroed(node *handle, node_page page, node_slot *slot);
 int node_unpin(node *handle, node_slot slot);
 int node_read(node *handle, node_slot slot, size_t at, uint8_t *into, size_t length);
 int node_write(node *handle, node_slot slot, size_t at, const uint8_t *bytes, size_t length);
-int node_lend(node *handle, node_slot slot, const uint8_t **bytes);
-int node_lend_mut(node *handle, node_slot slot, uint8_t **bytes);
+int node_bytes(node *handle, node_slot slot, const uint8_t **bytes);
+int node_bytes_mut(node *handle, node_slot slot, uint8_t **bytes);
 int node_resident(node *handle, node_page page, bool *resident);
 int node_victim(node *handle, bool *found, node_page *page);
 int node_list(node *handle, node_page *pages, size_t room, size_t *count);
 int node_step(node *handle, bool *found, node_page *page);
-int node_horizon(node *handle, uint64_t time, uint64_t *horizon);
-int node_write_back(node *handle);
-int node_write_back_some(node *handle, size_t limit, size_t *left);
+int node_raise(node *handle, uint64_t time, uint64_t *horizon);
 int node_write_back_page(node *handle, node_page page, bool *written);
-int node_flush(node *handle, uint16_t dev);
-int node_forget(node *handle, uint16_t dev, uint64_t from);
+int node_flush_device(node *handle, uint16_t dev);
+int node_forget_pages(node *handle, uint16_t dev, uint64_t from);
 int node_replace(node *handle, uint16_t dev, const node_device *device);
 int node_counts(node *handle, node_counters *counters);
 int node_device_counts(node *handle, uint16_t dev, node_device_counters *counters);
@@ -93,9 +92,9 @@ int node_load(node *handle, int fd, uint64_t length);
  * status, it is WARM_BAD_SHARDS first, then WARM_NO_SHARD, where they are not so.
  */
 
-/* Pins a page as node_pin does, and writes where its bytes lie, as node_lend does.
+/* Pins a page as node_pin does, and writes where its bytes lie, as node_bytes does.
  * Refused as node_pin is; the slot and the pointer are unchanged then. */
-int node_pin_lend(node *handle, node_page page, node_slot *slot, const uint8_t **bytes);
+int node_pin_bytes(node *handle, node_page page, node_slot *slot, const uint8_t **bytes);
 
 /* Pins a page as node_pin does, but with these bytes in place of a read, and writes its slot. They
  * are the page as its device has it now, whole: that is believed. No device is read. Of a page that
@@ -183,7 +182,7 @@ int node_differing(const node_table *table, const uint8_t *frame, size_t length,
 int node_want_frame(uint16_t replica, uint64_t horizon, uint64_t buckets, uint8_t *frame,
     size_t room, size_t *length);
 
-/* Whether node_forget would forget these pages, or what it would be refused with. Nothing
+/* Whether node_forget_pages would forget these pages, or what it would be refused with. Nothing
  * changes. */
 int node_may_forget(node *handle, uint16_t dev, uint64_t from);
 

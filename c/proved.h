@@ -3,9 +3,8 @@
  * installed.
  *
  * A page has its number first there, a slot no hit, a device a number in place of its calls, and
- * what is written no reserved words. Names differ, too: node_lend is warm_bytes, node_horizon
- * warm_raise, node_write_back warm_write_back_all, node_flush warm_flush_device, node_forget
- * warm_forget_pages, and a frame that travels is a message.
+ * what is written no reserved words. A function node_NAME does what warm_NAME does of a replica,
+ * and a frame that travels is a message.
  */
 #ifndef PROVED_H
 #define PROVED_H

@@ -112,13 +112,13 @@ typedef struct load {
 } load;
 
 static int ask_node(opened *its, shard *in, load *it) {
-    if (it->kind == LOAD_PINS) return node_pin_lend(&in->node, it->page, &it->slot, &it->bytes);
+    if (it->kind == LOAD_PINS) return node_pin_bytes(&in->node, it->page, &it->slot, &it->bytes);
     if (it->kind == LOAD_PINS_ZEROED) {
         in->may_be_dirty = true;
         return node_pin_zeroed(&in->node, it->page, &it->slot);
     }
     int status = node_pin_filled(&in->node, it->page, its->buffer, its->of->page_size, &it->slot);
-    return status == WARM_OK ? node_lend(&in->node, it->slot, &it->bytes) : status;
+    return status == WARM_OK ? node_bytes(&in->node, it->slot, &it->bytes) : status;
 }
 
 /* No status: the page that is to leave is dirty, and is to be written before that. */
@@ -572,14 +572,14 @@ int warm_bytes(warm *handle, warm_slot slot, const uint8_t **bytes) {
     visit made;
     int status = enter_slot(handle, slot, &made);
     if (status != WARM_OK) return status;
-    return leave_slot(&made, node_lend(&made.in->node, made.slot, bytes));
+    return leave_slot(&made, node_bytes(&made.in->node, made.slot, bytes));
 }
 
 int warm_bytes_mut(warm *handle, warm_slot slot, uint8_t **bytes) {
     visit made;
     int status = enter_slot_to_write(handle, slot, &made);
     if (status != WARM_OK) return status;
-    return leave_slot(&made, node_lend_mut(&made.in->node, made.slot, bytes));
+    return leave_slot(&made, node_bytes_mut(&made.in->node, made.slot, bytes));
 }
 
 /* Whose bytes are lent for writing, that page is dirty. */

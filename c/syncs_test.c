@@ -53,8 +53,8 @@ static void test_failed_syncs(void) {
         for (size_t number = 0; number < count; number++) {
             /* each shard by itself: the system would not fail again */
             write_to(&handle, (warm_page){.no = number}, 'b');
-            MUST(node_flush(&((opened *)handle.at)->shards[number].node, 0) == WARM_WRITE_FAULT &&
-                 errno == EIO);
+            node *its = &((opened *)handle.at)->shards[number].node;
+            MUST(node_flush_device(its, 0) == WARM_WRITE_FAULT && errno == EIO);
         }
         has_counted(&handle, 0, 1, 1);
         MUST(warm_flush_device(&handle, 0) == WARM_WRITE_FAULT &&

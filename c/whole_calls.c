@@ -96,7 +96,7 @@ static void raise_all(opened *its, uint64_t time, uint64_t *horizon) {
         uint64_t kept = time;
         shard *in = &its->shards[number];
         bool is_locked = enter(its, in);
-        node_horizon(&in->node, time, &kept);
+        node_raise(&in->node, time, &kept);
         leave(in, is_locked);
         if (kept < *horizon) *horizon = kept;
     }
@@ -318,7 +318,7 @@ static int take_entries(
         shard *in = &its->shards[number];
         bool is_locked = enter(its, in);
         status = has_entries ? node_receive_part(&in->node, its->count, number, message, length)
-                             : node_horizon(&in->node, what->horizon, &horizon);
+                             : node_raise(&in->node, what->horizon, &horizon);
         leave(in, is_locked);
     }
     return status;

@@ -451,10 +451,10 @@ static void test_horizons(void) {
     MUST(horizon == 7);
     OK(warm_raise(&handle, 3, &horizon));
     MUST(horizon == 7);
-    OK(node_horizon(&((opened *)handle.at)->shards[1].node, 9, &horizon));
+    OK(node_raise(&((opened *)handle.at)->shards[1].node, 9, &horizon));
     OK(warm_raise(&handle, 3, &horizon));
     MUST(horizon == 7);
-    OK(node_horizon(&((opened *)handle.at)->shards[3].node, 9, &horizon)); /* the last one */
+    OK(node_raise(&((opened *)handle.at)->shards[3].node, 9, &horizon)); /* the last one */
     OK(warm_raise(&handle, 3, &horizon));
     MUST(horizon == 7);
     OK(warm_offer(&handle, frame, sizeof frame, &length));

@@ -319,7 +319,7 @@ int warm_forget_pages(warm *handle, uint16_t dev, uint64_t from) {
     uint64_t step = ++its->of->steps;
     for (size_t number = 0; number < its->count && status == WARM_OK; number++) {
         shard *in = &its->shards[number];
-        status = node_forget(&in->node, dev, from);
+        status = node_forget_pages(&in->node, dev, from);
         make_stale(in, dev, from, step);
         note_left(in);
     }
@@ -349,7 +349,7 @@ static int settle_in_all(opened *its, uint16_t dev, const node_device *device) {
     bool before = sync_later(true); /* one sync for all shards */
     for (size_t number = 0; number < its->count && status == WARM_OK; number++) {
         shard *in = &its->shards[number];
-        status = noted_and_counted(its, in, dev, node_flush(&in->node, dev));
+        status = noted_and_counted(its, in, dev, node_flush_device(&in->node, dev));
     }
     sync_later(before);
     if (status == WARM_OK)

@@ -95,7 +95,7 @@ static int copy_page(opened *its, shard *in, writing *it, int32_t number) {
     const uint8_t *bytes;
     size_t size = its->of->page_size;
     int error = 0;
-    node_lend(&in->node, it->slot, &bytes);
+    node_bytes(&in->node, it->slot, &bytes);
     if (device_asks(number)) {
         it->is_asked = true;
         pthread_mutex_unlock(&in->lock);
@@ -123,7 +123,7 @@ static void tell_node(const opened *its, shard *in, const writing *it, int32_t n
     devices_answer(&made);
     node_write_back_page(&in->node, it->page, &written);
     devices_answer(NULL);
-    if (it->is_changed) node_lend_mut(&in->node, it->slot, &bytes); /* it is dirty again */
+    if (it->is_changed) node_bytes_mut(&in->node, it->slot, &bytes); /* it is dirty again */
 }
 
 static void count_failed_write(opened *its, uint16_t dev) {

@@ -67,7 +67,7 @@ static void pin(warm_page page, warm *by) {
     MUST(node_resident(beside, page_in(page), &is_in) == WARM_OK);
     if (how == 0) status = warm_pin_zeroed(by, page, &slot), expected = node_pin_zeroed(beside, page_in(page), &wanted);
     else if (how == 1) status = warm_pin(by, page, &slot), expected = node_pin(beside, page_in(page), &wanted);
-    else status = warm_pin_bytes(by, page, &slot, &bytes), expected = node_pin_lend(beside, page_in(page), &wanted, &other);
+    else status = warm_pin_bytes(by, page, &slot, &bytes), expected = node_pin_bytes(beside, page_in(page), &wanted, &other);
     MUST(status == expected);
     if (status != WARM_OK) return;
     MUST(slot.index == wanted.index && slot.generation == wanted.generation && slot.shard == shard_of(page) && slot.hit == is_in);
@@ -112,16 +112,16 @@ static void use_slot(void) {
     case 1: MUST(warm_write(by, slot, at, read, length) == node_write(beside, its_slot, at, wanted, length)); break;
     case 2: {
         int status = warm_bytes(by, slot, &lent);
-        MUST(status == node_lend(beside, its_slot, &its) && (status != WARM_OK || memcmp(lent, its, PAGE_SIZE) == 0));
+        MUST(status == node_bytes(beside, its_slot, &its) && (status != WARM_OK || memcmp(lent, its, PAGE_SIZE) == 0));
         break;
     }
     case 3: {
         int status = warm_bytes_mut(by, slot, &bytes);
-        MUST(status == node_lend_mut(beside, its_slot, &other));
+        MUST(status == node_bytes_mut(beside, its_slot, &other));
         if (status == WARM_OK) memcpy(bytes, read, PAGE_SIZE), memcpy(other, read, PAGE_SIZE);
         break;
     }
-    case 4: MUST(warm_mark_dirty(by, slot) == node_lend_mut(beside, its_slot, &other)); break;
+    case 4: MUST(warm_mark_dirty(by, slot) == node_bytes_mut(beside, its_slot, &other)); break;
     default: /* an unpin too many */
         if (!is_pinned(slot)) MUST(warm_unpin(by, slot) == WARM_STALE_SLOT && node_unpin(beside, its_slot) == WARM_STALE_SLOT);
     }
@@ -206,7 +206,7 @@ static void forget(void) {
     uint16_t dev = (uint16_t)draw(DEVICES);
     int expected = may_forget(dev, from);
     MUST(warm_forget_pages(draw_handle(), dev, from) == expected);
-    for (size_t number = 0; number < shards && expected == WARM_OK; number++) MUST(node_forget(&nodes[number], dev, from) == WARM_OK);
+    for (size_t number = 0; number < shards && expected == WARM_OK; number++) MUST(node_forget_pages(&nodes[number], dev, from) == WARM_OK);
 }
 
 static void replace(void) {
@@ -216,27 +216,39 @@ static void replace(void) {
     for (size_t number = 0; number < shards && expected == WARM_OK; number++) MUST(node_replace(&nodes[number], dev, &copies[dev]) == WARM_OK);
 }
 
+/* Writes back each dirty page of a node, frame by frame. */
+static void clean(node *beside) {
+    node_page page;
+    size_t at = 0;
+    bool is_found = true, is_written;
+    while (is_found) {
+        MUST(node_next_dirty(beside, at, &is_found, &at, &page) == WARM_OK);
+        if (is_found) MUST(node_write_back_page(beside, page, &is_written) == WARM_OK && is_written);
+    }
+}
+
 static void write_back(void) {
-    size_t left, wanted, number = 0;
+    size_t left;
     MUST(warm_write_back_some(draw_handle(), SIZE_MAX, &left) == WARM_OK && left == 0);
-    for (; number < shards; number++) MUST(node_write_back_some(&nodes[number], SIZE_MAX, &wanted) == WARM_OK && wanted == 0);
+    for (size_t number = 0; number < shards; number++) clean(&nodes[number]);
 }
 
 /* A page, or a device; and how many pages are left. A portion is in an order that no node has (c/write_back.c): c/check tests that. */
 static void write_some(void) {
     warm_page page = draw_page();
     bool is_written = false, is_wanted = false;
-    size_t left, wanted, all = 0;
+    node_counters part;
+    size_t left, all = 0;
     MUST(warm_write_back_page(draw_handle(), page, &is_written) == WARM_OK);
     MUST(node_write_back_page(&nodes[shard_of(page)], page_in(page), &is_wanted) == WARM_OK && is_written == is_wanted);
     if (draw(4) == 0) {
         MUST(warm_flush_device(draw_handle(), page.dev) == WARM_OK);
-        for (size_t number = 0; number < shards; number++) MUST(node_flush(&nodes[number], page.dev) == WARM_OK);
+        for (size_t number = 0; number < shards; number++) MUST(node_flush_device(&nodes[number], page.dev) == WARM_OK);
     }
     MUST(warm_write_back_some(draw_handle(), 0, &left) == WARM_OK);
     for (size_t number = 0; number < shards; number++) {
-        MUST(node_write_back_some(&nodes[number], 0, &wanted) == WARM_OK);
-        all += wanted;
+        MUST(node_counts(&nodes[number], &part) == WARM_OK);
+        all += part.dirty;
     }
     MUST(left == all);
 }

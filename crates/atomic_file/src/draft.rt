@@ -76,7 +76,7 @@ impl<'a, R: Files> Draft<'a, R> {
     /// its owner.
     ///
     /// The number picks the draft's name: drafts that are created at one time should have numbers
-    /// far apart, as random ones are. Where the name is taken the next number is tried,
+    /// far apart, as random ones are. If the name is taken the next number is tried,
     /// [`MAX_NAMES`] in all.
     ///
     /// # Errors

@@ -32,7 +32,7 @@ const OTHER: u64 = 0xF;
 
 // What was asked for, and which of it fails.
 #[derive(Drop)]
-struct Note {
+struct FileNote {
     asked: Cell<u64>,
     // Hexadecimal digits: what fails, where it is not 0.
     failing: u64,
@@ -40,9 +40,9 @@ struct Note {
     taken: Cell<u64>,
 }
 
-impl Note {
-    fn new(failing: u64, taken: u64) -> Note {
-        Note {
+impl FileNote {
+    fn new(failing: u64, taken: u64) -> FileNote {
+        FileNote {
             asked: Cell::new(0),
             failing,
             taken: Cell::new(taken),
@@ -67,7 +67,7 @@ impl Note {
 
 #[derive(Drop)]
 struct NotedFile<'a> {
-    note: &'a Note,
+    note: &'a FileNote,
     is_folder: bool,
 }
 
@@ -124,7 +124,7 @@ impl<'a> OpenFile for NotedFile<'a> {
 
 #[derive(Drop)]
 struct NotedFiles<'a> {
-    note: &'a Note,
+    note: &'a FileNote,
 }
 
 impl<'a> Files for NotedFiles<'a> {
@@ -197,7 +197,7 @@ impl<'a> Files for NotedFiles<'a> {
 
 // Replaces a file. `None` where its bytes could not be written; else the step that failed, where
 // one did.
-fn replaced(alloc: Global, note: &Note) -> Option<Option<FileStep>> {
+fn replaced(alloc: Global, note: &FileNote) -> Option<Option<FileStep>> {
     let files = NotedFiles { note };
     let mut draft = match Draft::create(&files, alloc, "place/file", 7) {
         Ok(draft) => draft,
@@ -229,7 +229,7 @@ fn each_step_may_fail(rt: HostRuntime) -> Result<(), Fail> {
         (REMOVE, 0x123456789, Some(None)),
     ];
     for (failing, asked, ended) in rows {
-        let note = Note::new(failing, 0);
+        let note = FileNote::new(failing, 0);
         let is_so = replaced(rt.alloc(), &note) == ended && note.asked.get() == asked;
         assert!(rt; is_so, "where {failing} fails");
     }
@@ -239,10 +239,10 @@ fn each_step_may_fail(rt: HostRuntime) -> Result<(), Fail> {
 // A name that is taken is left alone, and the next one is tried.
 #[test]
 fn names_may_be_taken(rt: HostRuntime) -> Result<(), Fail> {
-    let note = Note::new(0, 2);
+    let note = FileNote::new(0, 2);
     let is_so = replaced(rt.alloc(), &note) == Some(None) && note.asked.get() == 0x12344456789;
     assert!(rt; is_so, "where two names are taken");
-    let note = Note::new(0, MAX_NAMES);
+    let note = FileNote::new(0, MAX_NAMES);
     let is_so = replaced(rt.alloc(), &note) == Some(Some(FileStep::Create));
     assert!(rt; is_so, "where all names are taken");
     Ok(())

@@ -29,7 +29,7 @@ struct SlowCounter {
 }
 
 impl Machine for SlowCounter {
-    ghost use Rattle.warm_turn.specs.Counting.{Counts};
+    ghost use Rattle.warm_turn.specs.Counter.{Counts};
 
     type Call = Add;
 

@@ -27,7 +27,7 @@ pub struct Kinds {
 /// What the program's first argument asks for: `refused` or `promised`, or with no argument both.
 /// It is read into a buffer: an allocation here would count among those of the calls.
 ///
-/// `Broken` occurs where it is another word.
+/// `Broken` occurs if it is another word.
 pub fn asked<E: Env>(rt: &E) -> Result<Kinds, Ended> {
     let mut buffer = [0u8; 16];
     let length = match rt.arg(1, &mut buffer) {
@@ -100,7 +100,7 @@ impl Met {
         Ended::Broken
     }
 
-    /// Ends the test case where the condition is false.
+    /// Ends the test case if the condition is false.
     pub fn holds(&mut self, is: bool, what: &'static str) -> Result<(), Ended>
         ensures { result ≡ if is then Ok tt else Err Broken }
     {
@@ -140,7 +140,7 @@ fn printed(line: io::Result<()>) -> Result<(), Ended>
 /// Prints the name of the next call, which is allocation-free. Allocations up to the next line are
 /// counted for that call.
 ///
-/// `Broken` occurs where nothing could be printed.
+/// `Broken` occurs if nothing could be printed.
 pub fn takes_none<P: Print>(rt: &P, call: &str) -> Result<(), Ended> {
     printed(println!(rt; "takes no memory: {call}"))
 }
@@ -148,7 +148,7 @@ pub fn takes_none<P: Print>(rt: &P, call: &str) -> Result<(), Ended> {
 /// Prints the name of the next call, which allocates, and the size of its data, from which a bound
 /// of its allocations is computed. Allocations up to the next line are counted for that call.
 ///
-/// `Broken` occurs where nothing could be printed.
+/// `Broken` occurs if nothing could be printed.
 pub fn takes<P: Print>(rt: &P, size: usize, call: &str) -> Result<(), Ended> {
     printed(println!(rt; "takes memory for {size}: {call}"))
 }
@@ -156,7 +156,7 @@ pub fn takes<P: Print>(rt: &P, size: usize, call: &str) -> Result<(), Ended> {
 /// Prints that the last call has returned. Allocations after it prepare the next call, and are not
 /// counted.
 ///
-/// `Broken` occurs where nothing could be printed.
+/// `Broken` occurs if nothing could be printed.
 pub fn is_done<P: Print>(rt: &P) -> Result<(), Ended> {
     printed(println!(rt; "done"))
 }
@@ -172,7 +172,7 @@ fn print_end<P: Print>(rt: &P, met: &Met, ended: Result<(), Ended>) -> io::Resul
 
 /// Prints how the test cases ended.
 ///
-/// `Broken` occurs where a check failed, or nothing could be printed.
+/// `Broken` occurs if a check failed, or nothing could be printed.
 pub fn report<P: Print>(rt: &P, met: &Met, ended: Result<(), Ended>) -> Result<(), Ended> {
     printed(print_end(rt, met, ended))?;
     match ended {

@@ -8,18 +8,18 @@ use warm_devices::{Flaky, MemDevice, PageDevice};
 /// A device in memory of this many pages of 16 bytes.
 ///
 /// # Errors
-/// Where its allocation fails.
+/// If its allocation fails.
 pub fn memory(alloc: Global, pages: u64) -> Result<MemDevice, AllocError>
     ensures { IfOk result (λ device. device ≡ zeroed pages 16) }
 {
     MemDevice::new(alloc, pages, 16)
 }
 
-/// Such a device whose `n`-th call, of reads, writes and flushes, fails; no call fails where `n` is
+/// Such a device whose `n`-th call, of reads, writes and flushes, fails; no call fails if `n` is
 /// 0.
 ///
 /// # Errors
-/// Where its allocation fails.
+/// If its allocation fails.
 pub fn flaky(alloc: Global, pages: u64, n: u64) -> Result<Flaky<MemDevice>, AllocError> {
     let device = memory(alloc, pages)?;
     Ok(Flaky::new(device, n))
@@ -28,7 +28,7 @@ pub fn flaky(alloc: Global, pages: u64, n: u64) -> Result<Flaky<MemDevice>, Allo
 /// A list of one device.
 ///
 /// # Errors
-/// Where its allocation fails. The device is then dropped.
+/// If its allocation fails. The device is then dropped.
 pub fn alone<D: PageDevice>(alloc: Global, device: D) -> Result<Vec<D>, AllocError>
     ensures { IfOk result (λ devices. length devices.items ≡ 1) }
 {
@@ -40,7 +40,7 @@ pub fn alone<D: PageDevice>(alloc: Global, device: D) -> Result<Vec<D>, AllocErr
 /// A list of two devices.
 ///
 /// # Errors
-/// Where its allocation fails. The devices are then dropped.
+/// If its allocation fails. The devices are then dropped.
 pub fn both<D: PageDevice>(alloc: Global, first: D, second: D) -> Result<Vec<D>, AllocError>
     ensures { IfOk result (λ devices. length devices.items ≡ 2) }
 {

@@ -36,7 +36,7 @@ impl<H: Hooks> HookedDevice<H> {
     /// Forwards calls to `inner`.
     ///
     /// # Errors
-    /// Where the allocation of a page buffer fails. Device and hooks are then dropped.
+    /// If the allocation of a page buffer fails. Device and hooks are then dropped.
     pub fn new(alloc: Global, inner: MemDevice, hooks: H) -> Result<HookedDevice<H>, AllocError>
         ensures { IfOk result (λ device. hooked_state device ≡ inner) }
     {

@@ -11,7 +11,7 @@ pub type SeenAt = (u16, u64, u64, u16);
 /// The references of a list, in its order.
 ///
 /// # Errors
-/// Where their allocation fails.
+/// If their allocation fails.
 pub fn references(alloc: Global, given: &[SeenAt]) -> Result<Vec<Reference>, AllocError> {
     let mut batch = Vec::with_capacity(alloc, given.len())?;
     for (dev, no, time, number) in given {
@@ -23,7 +23,7 @@ pub fn references(alloc: Global, given: &[SeenAt]) -> Result<Vec<Reference>, All
 /// The history of the references of a list, which are absorbed as one batch.
 ///
 /// # Errors
-/// Where its allocation fails.
+/// If its allocation fails.
 pub fn history_of(alloc: Global, given: &[SeenAt]) -> Result<History, AllocError> {
     let batch = references(alloc, given)?;
     let mut history = History::new(alloc);
@@ -35,7 +35,7 @@ pub fn history_of(alloc: Global, given: &[SeenAt]) -> Result<History, AllocError
 /// that is greater by `spread`.
 ///
 /// # Errors
-/// Where their allocation fails.
+/// If their allocation fails.
 pub fn spread_references(
     alloc: Global,
     first: u64,
@@ -55,7 +55,7 @@ pub fn spread_references(
 /// including `end`.
 ///
 /// # Errors
-/// Where their allocation fails.
+/// If their allocation fails.
 pub fn references_to(
     alloc: Global,
     first: u64,
@@ -68,7 +68,7 @@ pub fn references_to(
 /// The history of [`references_to`] these pages.
 ///
 /// # Errors
-/// Where its allocation fails.
+/// If its allocation fails.
 pub fn history_of_pages(
     alloc: Global,
     first: u64,

@@ -37,7 +37,7 @@ impl DeviceNote {
     /// A note without entries, for a device of `pages` pages of `page_size` bytes.
     ///
     /// # Errors
-    /// Where its allocation fails.
+    /// If its allocation fails.
     pub fn blank(
         alloc: Global,
         pages: u64,
@@ -117,7 +117,7 @@ pub type Noting = HookedDevice<Arc<DeviceNote, Global>>;
 /// A device of `pages` pages of `page_size` zeros that records its drop, and the note.
 ///
 /// # Errors
-/// Where their allocation fails.
+/// If their allocation fails.
 pub fn noting(
     alloc: Global,
     pages: u64,

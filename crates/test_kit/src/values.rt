@@ -55,7 +55,7 @@ pub fn once(time: u64, number: u16) -> PageHist {
 }
 
 /// The history of a page whose last and second last stamps are given by time and replica. The
-/// second must be older; where it is not, only the last is kept.
+/// second must be older; if it is not, only the last is kept.
 pub fn twice(last: (u64, u16), prev: (u64, u16)) -> PageHist {
     let last = stamp(last.0, last.1);
     let prev = stamp(prev.0, prev.1);

@@ -7,7 +7,7 @@ use std::process::Abort;
 use test_kit::{
     BrokenReader, CountingReader, FullWriter, MarkingWriter, TrickleReader, are_equal, replica,
 };
-use warm_dump::{DumpError, DumpFault, READ_SIZE, read_dump, write_dump};
+use warm_dump::{DUMP_READ_SIZE, DumpError, DumpFault, read_dump, write_dump};
 
 #[test]
 fn a_dump_may_come_in_bytes(rt: HostRuntime) {
@@ -53,7 +53,7 @@ fn a_read_asks_for_65_536_bytes(rt: HostRuntime) {
     let mut reader = CountingReader::new(&text);
     let read = read_dump(rt.alloc(), &mut reader).expect(&rt, "a dump");
     assert!(rt; read.len() == 4);
-    assert!(rt; reader.most() == 65_536 && READ_SIZE == 65_536);
+    assert!(rt; reader.most() == 65_536 && DUMP_READ_SIZE == 65_536);
 }
 
 fn written_in(rt: &impl Abort, alloc: Global, left: usize) -> Result<(), DumpFault> {

@@ -6,7 +6,7 @@
 //! What must not fail ends the process where it does: a `?` would be one more exit path, on which
 //! the drops of all owned values are proved.
 ghost use Rattle.std.specs.Prelude.{◌≤◌, length};
-ghost use Rattle.warm_pool.specs.Keeping.{KeepsRanks};
+ghost use Rattle.warm_pool.specs.Unchanged.{KeepsRanks};
 ghost use Rattle.warm_pool.specs.State.{IsRankedByAll, RankedBy};
 
 mod counts;

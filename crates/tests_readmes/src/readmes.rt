@@ -6,6 +6,7 @@
 mod devices;
 mod digest;
 mod files;
+mod frame_table;
 mod frames;
 mod gossip;
 mod history;

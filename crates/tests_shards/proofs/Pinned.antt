@@ -4,10 +4,10 @@ use Rattle.warm_turn.specs.declared.fault.Busy.{Busy}
 use Rattle.warm_gossip.specs.State.{NodeState}
 use Rattle.warm_pool.specs.declared.slot.Slot.{Slot}
 use Rattle.warm_stamps.specs.declared.PageId.{PageId}
-use Rattle.warm_concurrent.specs.declared.call.ShardCall.{ShardCall}
-use Rattle.warm_concurrent.specs.declared.call.ShardCall.TheVariants.{Pin, Unpin}
-use Rattle.warm_concurrent.specs.declared.call.ShardReply.{ShardReply}
-use Rattle.warm_concurrent.specs.declared.call.ShardReply.TheVariants.{Pinned}
+use Rattle.warm_shard_machine.specs.declared.calls.ShardCall.{ShardCall}
+use Rattle.warm_shard_machine.specs.declared.calls.ShardCall.TheVariants.{Pin, Unpin}
+use Rattle.warm_shard_machine.specs.declared.calls.ShardReply.{ShardReply}
+use Rattle.warm_shard_machine.specs.declared.calls.ShardReply.TheVariants.{Pinned}
 use Rattle.warm_concurrent.specs.Attached.{AreOf, ShardPass, ShardTurn}
 use Rattle.warm_concurrent.specs.Clauses.{AnsweredByShard, SlotCallEnds, shard_done}
 use Rattle.warm_concurrent.specs.Opening.{AreClosed, AreFirst, AreHalved, AreSplit, PassesAreJoined, openings, shards_over}

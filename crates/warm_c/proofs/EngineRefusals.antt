@@ -1,7 +1,7 @@
 -- What a refused call of an engine leaves of what a handle holds.
 use Rattle.std.proofs.Common.{ℕ, List, Err, refl, sym, subst}
 use Rattle.warm_pool.specs.Forgetting.{ForgetRefused}
-use Rattle.warm_pool.specs.Outcomes.{FlushDeviceFails, UnreadPinFails, WritePageFails, WriteSomeFails}
+use Rattle.warm_pool.specs.Outcomes.{FlushDeviceFails, UnreadPinFails, WritePageFails}
 use Rattle.warm_gossip.specs.declared.call.Call.TheVariants.{Pin}
 use Rattle.warm_gossip.specs.declared.call.Reply.TheVariants.{Refused}
 use Rattle.warm_gossip.specs.declared.fault.NodeFault.{NodeFault}
@@ -9,13 +9,13 @@ use Rattle.warm_gossip.specs.declared.fault.NodeFault.TheVariants.{Memory, Pool,
 use Rattle.warm_gossip.specs.Clauses.{Goes, OfPool}
 use Rattle.warm_gossip.specs.Engine.{KeepsKnown}
 use Rattle.warm_c.specs.declared.open_node.OpenNode.{OpenNode}
-use Rattle.warm_c.specs.declared.status.Refusal.TheVariants.{Node}
-use Rattle.warm_c.specs.declared.values.PinnedSlot.{PinnedSlot}
-use Rattle.warm_c.specs.declared.values.WarmPage.{WarmPage}
+use Rattle.warm_c_base.specs.declared.status.Refusal.TheVariants.{Node}
+use Rattle.warm_c_base.specs.declared.values.PinnedSlot.{PinnedSlot}
+use Rattle.warm_c_base.specs.declared.values.WarmPage.{WarmPage}
 use Rattle.warm_c.specs.Calls.{SameDevices}
-use Rattle.warm_c.specs.Engine.{FlushesDevice, ForgetsPages, NodeWritesBackPage, PinsZeroed, SameButPool, WritesSome}
-use Rattle.warm_c.specs.Filling.{PinsFilled}
-use Rattle.warm_c.specs.Values.{page_of_c}
+use Rattle.warm_c.specs.Engine.{FlushesDevice, ForgetsPages, NodeWritesBackPage, PinsZeroed, SameButPool}
+use Rattle.warm_c.specs.FilledPins.{PinsFilled}
+use Rattle.warm_c_base.specs.Values.{page_of_c}
 
 -- the pool alone has changed
 same_but_pool : (old new : OpenNode) → KeepsKnown old.node new.node → SameDevices old new
@@ -30,14 +30,6 @@ module _ (old new : OpenNode) (known : KeepsKnown old.node new.node) (same : Sam
       (fails.cause, fails.stays, fails.devices, fails.frames, same_but_pool old new known same, refl)
   zeroed_refused page slot Memory fails = absurd fails
   zeroed_refused page slot StaleSlot fails = absurd fails
-
-  pub some_refused : (limit left : ℕ) (why : NodeFault)
-      → OfPool (λ fault. WriteSomeFails limit old.node.pool fault new.node.pool) why
-      → WritesSome limit left left old (Err (Node why)) new
-  some_refused limit left (Pool why) fails =
-      subst (λ w. WritesSome limit left left old (Err (Node (Pool w))) new) (sym fails.cause.0) (fails.cause.1, same_but_pool old new known same, refl)
-  some_refused limit left Memory fails = absurd fails
-  some_refused limit left StaleSlot fails = absurd fails
 
   pub page_refused : (page : WarmPage) (written : ℕ) (why : NodeFault)
       → OfPool (λ fault. WritePageFails (page_of_c page) old.node.pool fault new.node.pool) why

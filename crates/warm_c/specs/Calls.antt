@@ -8,10 +8,8 @@ use Rattle.warm_dump.specs.Reading.{IsDump, IsDumpRefused}
 use Rattle.warm_dump.specs.Writing.{StopsWriting}
 use Rattle.warm_frames.specs.declared.message.Message.{Message}
 use Rattle.warm_frames.specs.Encoding.{encoding}
-use Rattle.warm_pool.specs.Keeping.{KeepsBytes}
-use Rattle.warm_pool.specs.State.{IsSettled}
+use Rattle.warm_pool.specs.Unchanged.{KeepsBytes}
 use Rattle.warm_pool.specs.View.{view_of, IsResident}
-use Rattle.warm_pool.specs.WritingBack.{WriteBackFails}
 use Rattle.warm_gossip.specs.declared.call.Call.{Call}
 use Rattle.warm_gossip.specs.declared.call.Call.TheVariants.{Absorb, Horizon, Pin, Unpin}
 use Rattle.warm_gossip.specs.declared.call.Call.TheVariants.{Read, Write, Victim, WarmList, WarmStep}
@@ -19,17 +17,17 @@ use Rattle.warm_gossip.specs.declared.call.Reply.{Reply}
 use Rattle.warm_gossip.specs.declared.call.Reply.TheVariants.{Done, Kept, Pinned, Bytes}
 use Rattle.warm_gossip.specs.declared.call.Reply.TheVariants.{Page, Pages, Loaded, Refused}
 use Rattle.warm_gossip.specs.declared.fault.NodeFault.TheVariants.{Memory}
-use Rattle.warm_gossip.specs.Clauses.{DevicesAfter, Goes, Joins, SameView, NodeWriteBackFails}
+use Rattle.warm_gossip.specs.Clauses.{DevicesAfter, Goes, Joins, SameView}
 use Rattle.warm_c.specs.declared.open_node.OpenNode.{OpenNode}
-use Rattle.warm_c.specs.declared.status.Refusal.{Refusal}
-use Rattle.warm_c.specs.declared.status.Refusal.TheVariants.{Node, BufferTooSmall, BadReplica}
-use Rattle.warm_c.specs.declared.status.Refusal.TheVariants.{Dump}
-use Rattle.warm_c.specs.declared.values.PinnedSlot.{PinnedSlot}
-use Rattle.warm_c.specs.declared.values.WarmPage.{WarmPage}
-use Rattle.warm_c.specs.declared.values.WarmReference.{WarmReference}
-use Rattle.warm_c.specs.declared.values.WarmSlot.{WarmSlot}
-use Rattle.warm_c.specs.Values.{c_page, IsBool, IsOptionalPage, page_of_c, pinned_slot, reference_of}
-use Rattle.warm_c.specs.Values.{slot_of_c, with_start}
+use Rattle.warm_c_base.specs.declared.status.Refusal.{Refusal}
+use Rattle.warm_c_base.specs.declared.status.Refusal.TheVariants.{Node, BufferTooSmall, BadReplica}
+use Rattle.warm_c_base.specs.declared.status.Refusal.TheVariants.{Dump}
+use Rattle.warm_c_base.specs.declared.values.PinnedSlot.{PinnedSlot}
+use Rattle.warm_c_base.specs.declared.values.WarmPage.{WarmPage}
+use Rattle.warm_c_base.specs.declared.values.WarmReference.{WarmReference}
+use Rattle.warm_c_base.specs.declared.values.WarmSlot.{WarmSlot}
+use Rattle.warm_c_base.specs.Values.{c_page, IsBool, IsOptionalPage, page_of_c, pinned_slot}
+use Rattle.warm_c_base.specs.Values.{reference_of, slot_of_c, with_start}
 
 -- what a call of the library ends with
 abbrev pub Ending : Type 0
@@ -133,14 +131,6 @@ StepsWarmUp found page found' page' old (Err why) new = RefusedByNode WarmStep o
 abbrev pub SaysResident : WarmPage → ℕ → OpenNode → OpenNode → Type 0
 SaysResident page number old new =
     IsBool number (IsResident (view_of old.node.pool) (page_of_c page)) × (new ≡ old)
-
--- the node writes all dirty pages back and flushes its devices, or says why not
-abbrev pub NodeWritesBack : OpenNode → Ending → OpenNode → Type 0
-NodeWritesBack old (Ok given) new = SameView old.node new.node × IsSettled new.node.pool
-    × SameDevices old new
-NodeWritesBack old (Err (Node why)) new = NodeWriteBackFails old.node why new.node
-    × WriteBackFails old.node.pool new.node.pool × SameDevices old new
-NodeWritesBack old (Err why) new = ⊥
 
 -- Frames
 

@@ -8,12 +8,12 @@ use Rattle.warm_pool.specs.declared.fault.PoolFault.TheVariants.{Fault, NoDevice
 use Rattle.warm_gossip.specs.declared.fault.NodeFault.TheVariants.{Memory, Pool}
 use Rattle.warm_gossip.specs.Clauses.{SameView}
 use Rattle.warm_c.specs.declared.open_node.OpenNode.{OpenNode}
-use Rattle.warm_c.specs.declared.status.Refusal.{Refusal}
-use Rattle.warm_c.specs.declared.status.Refusal.TheVariants.{Node, SameFile}
-use Rattle.warm_c.specs.declared.values.WarmDevice.{WarmDevice}
-use Rattle.warm_c.specs.FdParts.{fd_opened}
+use Rattle.warm_c_base.specs.declared.status.Refusal.{Refusal}
+use Rattle.warm_c_base.specs.declared.status.Refusal.TheVariants.{Node, SameFile}
+use Rattle.warm_c_base.specs.declared.values.WarmDevice.{WarmDevice}
+use Rattle.warm_c_base.specs.FdParts.{fd_opened}
 use Rattle.warm_c.specs.Calls.{Ending, SameDevices}
-use Rattle.warm_c.specs.Handles.{DescriptorsDiffer, HaveOneFile}
+use Rattle.warm_c_base.specs.DeviceLists.{DescriptorsDiffer, HaveOneFile}
 
 -- Replacing a device
 

@@ -4,21 +4,20 @@ use Rattle.warm_pool.specs.declared.dirty.DirtyFrame.{DirtyFrame}
 use Rattle.warm_pool.specs.declared.fault.PoolFault.TheVariants.{Fault}
 use Rattle.warm_pool.specs.Calls.{FlushesOnce}
 use Rattle.warm_pool.specs.Forgetting.{ForgetRefused, Forgets, MayForget}
-use Rattle.warm_pool.specs.Keeping.{KeepsFrames, SameButFailures}
+use Rattle.warm_pool.specs.Unchanged.{KeepsFrames, SameButFailures}
 use Rattle.warm_pool.specs.Retiring.{KeepsElsewhere}
 use Rattle.warm_pool.specs.View.{view_of, Holds}
 use Rattle.warm_pool.specs.WritingSome.{FlushRefused, IsDirty, IsNextDirty, IsSettledOn}
-use Rattle.warm_pool.specs.WritingSome.{KeepsOtherDevices, PageFails, SomeFails}
-use Rattle.warm_pool.specs.WritingSome.{WritesBackPage, WritesBackSome}
+use Rattle.warm_pool.specs.WritingSome.{KeepsOtherDevices, PageFails, WritesBackPage}
 use Rattle.warm_pool.specs.Zeroing.{LeavesUnread, PinnedZeroed, TakesZeroed, ZeroedRefused}
 use Rattle.warm_gossip.specs.declared.fault.NodeFault.TheVariants.{Pool}
 use Rattle.warm_gossip.specs.Clauses.{SameView}
 use Rattle.warm_c.specs.declared.open_node.OpenNode.{OpenNode}
-use Rattle.warm_c.specs.declared.status.Refusal.TheVariants.{Node}
-use Rattle.warm_c.specs.declared.values.PinnedSlot.{PinnedSlot}
-use Rattle.warm_c.specs.declared.values.WarmPage.{WarmPage}
+use Rattle.warm_c_base.specs.declared.status.Refusal.TheVariants.{Node}
+use Rattle.warm_c_base.specs.declared.values.PinnedSlot.{PinnedSlot}
+use Rattle.warm_c_base.specs.declared.values.WarmPage.{WarmPage}
 use Rattle.warm_c.specs.Calls.{Ending, SameDevices}
-use Rattle.warm_c.specs.Values.{IsBool, IsOptionalDirty, page_of_c, pinned_slot}
+use Rattle.warm_c_base.specs.Values.{IsBool, IsOptionalDirty, page_of_c, pinned_slot}
 
 -- the id, the history and the devices that the handle was given are as they were
 pub record SameButPool (old new : OpenNode) : Type 0 where
@@ -55,15 +54,6 @@ PinsZeroed page before after old (Err (Node (Pool why))) new =
 PinsZeroed page before after old (Err why) new = ⊥
 
 -- Writing back
-
--- at most this many pages are written back, and how many are still dirty is given; a refused call
--- gives nothing
-abbrev pub WritesSome : ℕ → ℕ → ℕ → OpenNode → Ending → OpenNode → Type 0
-WritesSome limit before left old (Ok given) new = SameView old.node new.node
-    × WritesBackSome limit old.node.pool left new.node.pool × SameDevices old new
-WritesSome limit before left old (Err (Node (Pool Fault))) new =
-    SomeFails limit old.node.pool new.node.pool × SameButPool old new × (left ≡ before)
-WritesSome limit before left old (Err why) new = ⊥
 
 -- the page is written back where it is dirty, and whether it was is given; a refused call gives
 -- nothing

@@ -11,7 +11,8 @@ use Rattle.warm_frames.specs.Limits.{SpeaksBy, StampsBy, entries_in, horizon_in}
 use Rattle.warm_frames.specs.Reading.{GivesReading, read_frame, reserved_by}
 use Rattle.warm_shards.specs.Shards.{IsShardCount}
 use Rattle.warm_c.specs.declared.frame_parts.NodeFrame.{NodeFrame}
-use Rattle.warm_c.specs.declared.status.Refusal.TheVariants.{BadReplica, BadShards, Frame, Late}
+use Rattle.warm_c_base.specs.declared.status.Refusal.TheVariants.{BadReplica, BadShards}
+use Rattle.warm_c_base.specs.declared.status.Refusal.TheVariants.{Frame, Late}
 use Rattle.warm_c.specs.Calls.{Ending, PutsFrame}
 use Rattle.warm_c.specs.Parts.{HasBits, entry_pages, shards_of}
 

@@ -6,7 +6,7 @@ use Rattle.warm_digest.specs.BucketDigests.{digests_of}
 use Rattle.warm_frames.specs.declared.message.Message.{Message}
 use Rattle.warm_frames.specs.Encoding.{Encodes}
 use Rattle.warm_frames.specs.Reading.{GivesReading, read_frame, reserved_by}
-use Rattle.warm_pool.specs.Keeping.{KeepsBytes}
+use Rattle.warm_pool.specs.Unchanged.{KeepsBytes}
 use Rattle.warm_gossip.specs.declared.call.Call.TheVariants.{Receive}
 use Rattle.warm_gossip.specs.declared.call.Reply.TheVariants.{Answers, Refused}
 use Rattle.warm_gossip.specs.declared.fault.NodeFault.TheVariants.{Memory}
@@ -14,13 +14,13 @@ use Rattle.warm_gossip.specs.Clauses.{Joins}
 use Rattle.warm_shards.specs.Digests.{FillsShard}
 use Rattle.warm_c.specs.declared.open_node.OpenNode.{OpenNode}
 use Rattle.warm_c.specs.declared.open_peer.OpenPeer.{OpenPeer}
-use Rattle.warm_c.specs.declared.status.Refusal.TheVariants.{Closed, Frame, Node}
-use Rattle.warm_c.specs.declared.values.PinnedSlot.{PinnedSlot}
-use Rattle.warm_c.specs.declared.values.WarmPage.{WarmPage}
+use Rattle.warm_c_base.specs.declared.status.Refusal.TheVariants.{Closed, Frame, Node}
+use Rattle.warm_c_base.specs.declared.values.PinnedSlot.{PinnedSlot}
+use Rattle.warm_c_base.specs.declared.values.WarmPage.{WarmPage}
 use Rattle.warm_c.specs.Calls.{Ending, Pins, Replies, SameDevices, SameOpen}
 use Rattle.warm_shards.specs.Parts.{part_of_history, part_of_message}
 use Rattle.warm_c.specs.Parts.{OfPart}
-use Rattle.warm_c.specs.Statuses.{code_of, status_of}
+use Rattle.warm_c_base.specs.Statuses.{code_of, status_of}
 
 -- The page is pinned as by a pin, and an address is written. That it is that of the page's bytes is
 -- nothing that a clause can say. A refused call writes none.

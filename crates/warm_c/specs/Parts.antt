@@ -8,10 +8,10 @@ use Rattle.warm_stamps.specs.declared.TheConstants.{BUCKETS}
 use Rattle.warm_history.specs.declared.hist.Entry.{Entry}
 use Rattle.warm_history.specs.Carried.{bucket_entries}
 use Rattle.warm_shards.specs.Shards.{IsShardCount, shard_of}
-use Rattle.warm_c.specs.declared.status.Refusal.{Refusal}
-use Rattle.warm_c.specs.declared.status.Refusal.TheVariants.{BadShards, NoShard}
+use Rattle.warm_c_base.specs.declared.status.Refusal.{Refusal}
+use Rattle.warm_c_base.specs.declared.status.Refusal.TheVariants.{BadShards, NoShard}
 use Rattle.warm_c.specs.Calls.{Ending}
-use Rattle.warm_c.specs.Statuses.{status_of}
+use Rattle.warm_c_base.specs.Statuses.{status_of}
 
 -- a call without a handle: it ends as `goes` says, and the status is that of the ending
 abbrev pub WithoutHandle : (Ending → Type 0) → ℤ → Type 0

@@ -9,12 +9,13 @@ use Rattle.warm_peer.specs.State.{opened_peer}
 use Rattle.warm_gossip.specs.declared.fault.NodeFault.TheVariants.{Memory}
 use Rattle.warm_c.specs.declared.open_node.OpenNode.{OpenNode}
 use Rattle.warm_c.specs.declared.open_peer.OpenPeer.{OpenPeer}
-use Rattle.warm_c.specs.declared.status.Refusal.{Refusal}
-use Rattle.warm_c.specs.declared.status.Refusal.TheVariants.{AlreadyOpen, BadReplica, Dump, Node}
-use Rattle.warm_c.specs.declared.values.WarmPage.{WarmPage}
+use Rattle.warm_c_base.specs.declared.status.Refusal.{Refusal}
+use Rattle.warm_c_base.specs.declared.status.Refusal.TheVariants.{AlreadyOpen, BadReplica}
+use Rattle.warm_c_base.specs.declared.status.Refusal.TheVariants.{Dump, Node}
+use Rattle.warm_c_base.specs.declared.values.WarmPage.{WarmPage}
 use Rattle.warm_c.specs.Calls.{Ending}
-use Rattle.warm_c.specs.Statuses.{code_of}
-use Rattle.warm_c.specs.Values.{c_page, with_start}
+use Rattle.warm_c_base.specs.Statuses.{code_of}
+use Rattle.warm_c_base.specs.Values.{c_page, with_start}
 
 -- why no peer is made; an allocation may fail
 abbrev pub PeerRefused : ℕ → Refusal → Type 0

@@ -9,10 +9,10 @@ use Rattle.warm_frames.specs.Limits.{entries_in}
 use Rattle.warm_gossip.specs.declared.fault.NodeFault.TheVariants.{Memory}
 use Rattle.warm_peer.specs.Since.{HasMoreSince, sent_since}
 use Rattle.warm_c.specs.declared.open_node.OpenNode.{OpenNode}
-use Rattle.warm_c.specs.declared.status.Refusal.TheVariants.{BadBucket, Node}
-use Rattle.warm_c.specs.declared.values.WarmPage.{WarmPage}
+use Rattle.warm_c_base.specs.declared.status.Refusal.TheVariants.{BadBucket, Node}
+use Rattle.warm_c_base.specs.declared.values.WarmPage.{WarmPage}
 use Rattle.warm_c.specs.Calls.{Ending, PutsFrame}
-use Rattle.warm_c.specs.Values.{c_page, IsBool}
+use Rattle.warm_c_base.specs.Values.{c_page, IsBool}
 
 -- what stands behind the pointers of a send of a bucket since a time: the buffer, the length of the
 -- frame, how many entries it has, whether more follow, and the last page

@@ -2,13 +2,13 @@
 ghost use Rattle.std.specs.Fn.{FnOnceReturnsAtMut};
 ghost use Rattle.std.specs.Prelude.{◌≡◌, pos, Some};
 ghost use Rattle.warm_c.specs.Handles.{OnHandle};
-ghost use Rattle.warm_c.specs.Statuses.{code_of, status_of};
-ghost use Rattle.warm_c.specs.declared.status.Refusal.TheVariants.{Closed};
+ghost use Rattle.warm_c_base.specs.Statuses.{code_of, status_of};
+ghost use Rattle.warm_c_base.specs.declared.status.Refusal.TheVariants.{Closed};
 
 use crate::handle::Handle;
 use crate::open_node::OpenNode;
-use crate::status::{Refusal, status_of};
 use std::alloc::Global;
+use warm_c_base::{Refusal, status_of};
 
 /// Returns the status of a call on a closed handle.
 pub(crate) fn closed() -> i32

@@ -1,13 +1,11 @@
 //! The calls on an open handle that say what was counted, and which call of a device failed last.
 ghost use Rattle.std.specs.Prelude.{◌≡◌, ◌<◌, length, map};
 ghost use Rattle.warm_pool.specs.State.{nth_device};
-ghost use Rattle.warm_c.specs.Counting.{CountsDevice, CountsPool, SaysFailure};
-ghost use Rattle.warm_c.specs.FdParts.{fd_state};
+ghost use Rattle.warm_c.specs.CountCalls.{CountsDevice, CountsPool, SaysFailure};
+ghost use Rattle.warm_c_base.specs.FdParts.{fd_state};
 
-use crate::counters::{WarmCounters, WarmDeviceCounters, WarmFailure, put_failure};
-use crate::fd_device::FdDevice;
 use crate::open_node::OpenNode;
-use crate::status::Refusal;
+use warm_c_base::{FdDevice, Refusal, WarmCounters, WarmDeviceCounters, WarmFailure, put_failure};
 use warm_gossip::NodeFault;
 use warm_pool::{FailedCall, PoolFault};
 

@@ -2,15 +2,12 @@
 ghost use Rattle.std.specs.Prelude.{◌≡◌, ◌*◌, ◌^◌, ◌<◌, ◌≤◌, IfErr, IfNone, IfOk, IfSome, OnOk};
 ghost use Rattle.warm_c.specs.Devices.{MayNotStand, MayStand, Replaces, SaysMayStand};
 ghost use Rattle.warm_c.specs.Devices.{devices_after, made_device};
-ghost use Rattle.warm_c.specs.FdParts.{fd_opened, fd_state};
-ghost use Rattle.warm_c.specs.Handles.{DescriptorsDiffer};
+ghost use Rattle.warm_c_base.specs.FdParts.{fd_opened, fd_state};
+ghost use Rattle.warm_c_base.specs.DeviceLists.{DescriptorsDiffer};
 
-use crate::fd_device::FdDevice;
 use crate::open_node::OpenNode;
-use crate::opening::{check_apart, devices_with};
-use crate::status::Refusal;
-use crate::values::WarmDevice;
 use std::alloc::Global;
+use warm_c_base::{FdDevice, Refusal, WarmDevice, check_apart, devices_with};
 use warm_gossip::NodeFault;
 use warm_pool::PoolFault;
 use warm_stamps::Items;

@@ -4,12 +4,10 @@ ghost use Rattle.std.specs.Io.KnownBytes.{Appends};
 ghost use Rattle.warm_dump.specs.Dumps.{dump_of};
 ghost use Rattle.warm_c.specs.Calls.{SaveRefused, Loads, Saves};
 
-use crate::descriptor::Descriptor;
-use crate::dump_file::{FileReader, FileWriter};
 use crate::open_node::OpenNode;
-use crate::status::Refusal;
 use std::alloc::Global;
 use std::io::{Read, Write};
+use warm_c_base::{Descriptor, FileReader, FileWriter, Refusal};
 use warm_dump::{read_dump, write_dump};
 use warm_history::laws::prove_is_history;
 

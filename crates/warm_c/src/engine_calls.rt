@@ -1,18 +1,17 @@
 //! The calls on an open handle by which an engine holds its pages, beside pins, reads and writes.
 ghost use Rattle.std.specs.Prelude.{◌≡◌, ◌↔◌, IfErr, IfOk, IsTrue};
 ghost use Rattle.warm_c.specs.Engine.{FlushesDevice, ForgetsPages, NodeWritesBackPage, PinsZeroed};
-ghost use Rattle.warm_c.specs.Engine.{SaysMayForget, WritesSome};
-ghost use Rattle.warm_c.specs.Filling.{PinsFilled};
-ghost use Rattle.warm_c.specs.Values.{page_of_c};
-ghost use Rattle.warm_c.specs.declared.status.Refusal.TheVariants.{Node};
+ghost use Rattle.warm_c.specs.Engine.{SaysMayForget};
+ghost use Rattle.warm_c.specs.FilledPins.{PinsFilled};
+ghost use Rattle.warm_c_base.specs.Values.{page_of_c};
+ghost use Rattle.warm_c_base.specs.declared.status.Refusal.TheVariants.{Node};
 ghost use Rattle.warm_pool.specs.WritingSome.{IsDirty, IsNextDirty};
 ghost use Rattle.warm_gossip.specs.State.{node_view};
 ghost use Rattle.warm_gossip.specs.Step.{IsNextWarm};
 ghost use Rattle.warm_gossip.specs.declared.fault.NodeFault.TheVariants.{Memory};
 
 use crate::open_node::OpenNode;
-use crate::status::Refusal;
-use crate::values::{PinnedSlot, WarmPage, c_bool};
+use warm_c_base::{PinnedSlot, Refusal, WarmPage, c_bool};
 use warm_pool::{DirtyFrame, NewPoolFault};
 use warm_stamps::PageId;
 
@@ -65,18 +64,6 @@ impl OpenNode {
         Ok(next)
     }
 
-    /// Calls [`warm_gossip::Node::write_back_some`], and writes how many pages are still dirty.
-    ///
-    /// # Errors
-    /// `Node`: the node's own. `left` is unchanged.
-    pub fn write_back_some(&mut self, limit: usize, left: &mut usize) -> Result<(), Refusal>
-        ensures { WritesSome limit left.old left.new self.old result self.new }
-    {
-        let dirty = self.node.write_back_some(limit)?;
-        *left = dirty;
-        Ok(())
-    }
-
     /// Calls [`warm_gossip::Node::write_back_page`], and writes whether the page was dirty, 1 or
     /// 0.
     ///
@@ -108,7 +95,7 @@ impl OpenNode {
     ///
     /// # Errors
     /// `Node`: the node's own.
-    pub fn flush(&mut self, dev: u16) -> Result<(), Refusal>
+    pub fn flush_device(&mut self, dev: u16) -> Result<(), Refusal>
         ensures { FlushesDevice dev self.old result self.new }
     {
         self.node.flush_device(dev)?;
@@ -119,7 +106,7 @@ impl OpenNode {
     ///
     /// # Errors
     /// `Node`: the node's own.
-    pub fn forget(&mut self, dev: u16, from: u64) -> Result<(), Refusal>
+    pub fn forget_pages(&mut self, dev: u16, from: u64) -> Result<(), Refusal>
         ensures { ForgetsPages dev from self.old result self.new }
     {
         self.node.forget_pages(dev, from)?;

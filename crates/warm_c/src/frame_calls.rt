@@ -3,12 +3,11 @@ ghost use Rattle.std.specs.Prelude.{◌≡◌, ◌<◌, ◌≤◌, length};
 ghost use Rattle.warm_frames.specs.Limits.{entries_in};
 ghost use Rattle.warm_c.specs.Calls.{PutsFrame};
 ghost use Rattle.warm_c.specs.Since.{PutsSent, SendsSince, last_in, send_buffers};
-ghost use Rattle.warm_c.specs.Values.{with_start};
+ghost use Rattle.warm_c_base.specs.Values.{with_start};
 
 use crate::open_node::OpenNode;
-use crate::status::Refusal;
-use crate::values::{WarmPage, c_bool};
 use std::alloc::Global;
+use warm_c_base::{Refusal, WarmPage, c_bool};
 use warm_frames::{Message, encode};
 use warm_stamps::{Bucket, PageId};
 

@@ -8,8 +8,8 @@ ghost use Rattle.warm_c.specs.FrameParts.{MakesFrame, ReadsFrame};
 
 use crate::frame_calls::put_frame;
 use crate::shard_parts::shards_of_entries;
-use crate::status::Refusal;
 use std::alloc::Global;
+use warm_c_base::Refusal;
 use warm_digest::differing;
 use warm_frames::{DIGEST_SIZE, DigestTable, Message, TimeFault, check_times, decode};
 use warm_shards::is_shard_count;

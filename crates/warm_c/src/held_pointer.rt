@@ -3,7 +3,7 @@ ghost use Rattle.std.specs.Prelude.{◌≡◌, Option, Some, None, IsSome};
 ghost use Rattle.std.specs.contracts.impls.GlobalAllocator.TheImpl.{ghosts};
 ghost use Rattle.warm_c.specs.contracts.open_node.OpenNode.{the_row as node_row};
 ghost use Rattle.warm_c.specs.declared.open_node.OpenNode.{OpenNode};
-ghost use Rattle.warm_c.specs.Owning.{pointer_owns};
+ghost use Rattle.warm_c.specs.Ownership.{pointer_owns};
 
 use crate::open_node::OpenNode;
 use crate::raw_box::RawBox;

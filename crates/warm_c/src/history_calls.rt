@@ -1,12 +1,11 @@
 //! The calls on the history of an open handle.
 ghost use Rattle.std.specs.Prelude.{◌≡◌, ◌≤◌, length, map, IfErr, IfOk};
 ghost use Rattle.warm_c.specs.Calls.{Absorbs, BatchRefused, CountsPages, Lists, Raises};
-ghost use Rattle.warm_c.specs.Values.{c_page, reference_of, with_start};
+ghost use Rattle.warm_c_base.specs.Values.{c_page, reference_of, with_start};
 
 use crate::open_node::OpenNode;
-use crate::status::Refusal;
-use crate::values::{WarmPage, WarmReference};
 use std::alloc::{AllocError, Global};
+use warm_c_base::{Refusal, WarmPage, WarmReference};
 use warm_stamps::{PageId, Reference, ReplicaId, Stamp};
 
 // The references, as the node knows them.

@@ -1,11 +1,10 @@
 //! Lending the bytes of a page to C.
 ghost use Rattle.std.specs.Prelude.{◌≡◌, ◌<◌, length};
 ghost use Rattle.std.specs.Ptr.{as_ptr};
-ghost use Rattle.warm_c.specs.Lending.{Lends, LendsMut};
+ghost use Rattle.warm_c.specs.LentBytes.{Lends, LendsMut};
 
 use crate::open_node::OpenNode;
-use crate::status::Refusal;
-use crate::values::WarmSlot;
+use warm_c_base::{Refusal, WarmSlot};
 use warm_gossip::NodeFault;
 
 // Returns the address of the first of these bytes.
@@ -31,7 +30,7 @@ impl OpenNode {
     ///
     /// # Errors
     /// `Node`, with `StaleSlot`: the slot does not hold its page. The pointer is unchanged.
-    pub fn lend(&self, slot: WarmSlot, bytes: &mut *const u8) -> Result<(), Refusal>
+    pub fn bytes(&self, slot: WarmSlot, bytes: &mut *const u8) -> Result<(), Refusal>
         ensures { Lends slot bytes.old bytes.new self.now result self.now }
     {
         let slot = slot.slot();
@@ -49,7 +48,7 @@ impl OpenNode {
     ///
     /// # Errors
     /// `Node`, with `StaleSlot`: the slot does not hold its page. The pointer is unchanged.
-    pub fn lend_mut(&mut self, slot: WarmSlot, bytes: &mut *mut u8) -> Result<(), Refusal>
+    pub fn bytes_mut(&mut self, slot: WarmSlot, bytes: &mut *mut u8) -> Result<(), Refusal>
         ensures { LendsMut slot bytes.old bytes.new self.old result self.new }
     {
         let slot = slot.slot();

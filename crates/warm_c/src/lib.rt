@@ -7,19 +7,18 @@
 //! Most functions, `node_NAME`, make the node's call `Node::NAME`. The others are:
 //!
 //! - [`node_list`] makes `Node::warm_list`, [`node_step`] makes `Node::warm_step`, [`node_next`]
-//!   makes `Node::warm_next`, [`node_read`] makes `Node::read_into`, and [`node_horizon`] makes
-//!   `Node::raise`.
+//!   makes `Node::warm_next`, [`node_read`] makes `Node::read_into`, and [`node_replace`] makes
+//!   `Node::retire`.
 //! - [`node_history_length`] counts the pages of the node's history, [`node_save`] writes a dump of
 //!   it, and [`node_load`] joins the history of a dump (`Node::join`).
-//! - [`node_resident`], [`node_dirty`], [`node_next_dirty`], [`node_lend`], [`node_counts`],
-//!   [`node_device_counts`] and [`node_last_failure`] ask the node's pool, [`node_lend_mut`] makes
-//!   `Node::bytes_mut`, [`node_replace`] `Node::retire`, [`node_flush`] `Node::flush_device`, and
-//!   [`node_forget`] `Node::forget_pages`.
+//! - [`node_resident`], [`node_dirty`], [`node_next_dirty`], [`node_bytes`], [`node_counts`],
+//!   [`node_device_counts`] and [`node_last_failure`] ask the node's pool.
 //! - [`node_open`] and [`node_close`] create and drop the node. Each of the other functions that
 //!   take a handle returns 64 on a closed one, and changes nothing.
 //!
-//! c/fd_calls.c has what is not proved: the calls of the system on the descriptors, which
-//! `descriptor` asks for. c/heap.c, where its memory is from, is not proved either.
+//! Devices, files, and what crosses to C by value are of `warm_c_base`. c/fd_calls.c has what is not
+//! proved: the calls of the system on the descriptors. c/heap.c, where its memory is from, is not
+//! proved either.
 //!
 //! Nothing is undefined for any handle, slot or length, as long as the caller keeps what the header
 //! asks: a handle that was all zeros before its first call, and that only these functions change;
@@ -28,30 +27,25 @@
 #![tactic(auto)]
 
 ghost use Rattle.std.specs.Prelude.{◌≡◌, None, Some};
-ghost use Rattle.warm_c.specs.Calls.{Absorbs, CountsPages, Lists, Loads, Names, NodeWritesBack};
-ghost use Rattle.warm_c.specs.Calls.{Pins, Raises, ReadsSlot, Saves, SaysResident, StepsWarmUp};
-ghost use Rattle.warm_c.specs.Calls.{Unpins, Writes};
-ghost use Rattle.warm_c.specs.Counting.{CountsDevice, CountsPool, SaysFailure};
+ghost use Rattle.warm_c.specs.Calls.{Absorbs, CountsPages, Lists, Loads, Names, Pins};
+ghost use Rattle.warm_c.specs.Calls.{Raises, ReadsSlot, Saves, SaysResident, StepsWarmUp, Unpins};
+ghost use Rattle.warm_c.specs.Calls.{Writes};
+ghost use Rattle.warm_c.specs.CountCalls.{CountsDevice, CountsPool, SaysFailure};
 ghost use Rattle.warm_c.specs.Devices.{Replaces};
 ghost use Rattle.warm_c.specs.Engine.{FlushesDevice, ForgetsPages, NamesDirty, NodeWritesBackPage};
-ghost use Rattle.warm_c.specs.Engine.{PinsZeroed, SaysDirty, WritesSome};
-ghost use Rattle.warm_c.specs.Filling.{NamesNext, PinsFilled};
+ghost use Rattle.warm_c.specs.Engine.{PinsZeroed, SaysDirty};
+ghost use Rattle.warm_c.specs.FilledPins.{NamesNext, PinsFilled};
 ghost use Rattle.warm_c.specs.Handles.{OnHandle, Opens, Surely, open_request};
-ghost use Rattle.warm_c.specs.Lending.{Lends, LendsMut};
+ghost use Rattle.warm_c.specs.LentBytes.{Lends, LendsMut};
 ghost use Rattle.warm_c.specs.Since.{SendsSince, send_buffers};
-ghost use Rattle.warm_c.specs.Statuses.{status_of};
-ghost use Rattle.warm_c.specs.Values.{page_if};
+ghost use Rattle.warm_c_base.specs.Statuses.{status_of};
+ghost use Rattle.warm_c_base.specs.Values.{page_if};
 
 mod called;
 mod count_calls;
-pub mod counters;
-pub mod descriptor;
 mod device_calls;
-pub mod device_file;
 mod dump_calls;
-pub mod dump_file;
 mod engine_calls;
-pub mod fd_device;
 mod frame_calls;
 mod frame_parts;
 pub mod handle;
@@ -71,20 +65,16 @@ pub mod peer_pointer;
 mod pool_calls;
 pub mod raw_box;
 pub mod shard_parts;
-pub mod status;
-pub mod values;
 
 use crate::called::{closed, on_open, put_back};
-use crate::counters::{WarmCounters, WarmDeviceCounters, WarmFailure};
-use crate::descriptor::Descriptor;
 use crate::handle::Handle;
 use crate::open_node::OpenNode;
 use crate::opening::open;
-use crate::status::{Refusal, status_of};
-use crate::values::{
-    PinnedSlot, WarmDevice, WarmPage, WarmReference, WarmSlot, c_bool, page_if, put_dirty, put_page,
-};
 use std::alloc::Global;
+use warm_c_base::{
+    Descriptor, PinnedSlot, Refusal, WarmCounters, WarmDevice, WarmDeviceCounters, WarmFailure,
+    WarmPage, WarmReference, WarmSlot, c_bool, page_if, put_dirty, put_page, status_of,
+};
 use warm_gossip::NodeFault;
 
 /// Opens a closed handle: creates a node of this replica, with a pool of `frames` empty frames over
@@ -291,7 +281,7 @@ pub extern "C" fn node_write(
 /// # Errors
 /// 13: the slot does not hold its page. The pointer is unchanged.
 #[unsafe(no_mangle)]
-pub extern "C" fn node_lend(
+pub extern "C" fn node_bytes(
     alloc: Global,
     handle: &mut Handle,
     slot: WarmSlot,
@@ -304,7 +294,7 @@ pub extern "C" fn node_lend(
     let Some(node) = handle.take(alloc) else {
         return closed();
     };
-    let done = node.lend(slot, bytes);
+    let done = node.bytes(slot, bytes);
     put_back(handle, node, done)
 }
 
@@ -314,7 +304,7 @@ pub extern "C" fn node_lend(
 /// # Errors
 /// 13: the slot does not hold its page. The pointer is unchanged.
 #[unsafe(no_mangle)]
-pub extern "C" fn node_lend_mut(
+pub extern "C" fn node_bytes_mut(
     alloc: Global,
     handle: &mut Handle,
     slot: WarmSlot,
@@ -327,7 +317,7 @@ pub extern "C" fn node_lend_mut(
     let Some(mut node) = handle.take(alloc) else {
         return closed();
     };
-    let done = node.lend_mut(slot, bytes);
+    let done = node.bytes_mut(slot, bytes);
     put_back(handle, node, done)
 }
 
@@ -544,7 +534,7 @@ pub extern "C" fn node_send_since(
 /// Raises the horizon to this time, unless it is later already: forgets all stamps before it, and
 /// writes the horizon from then on.
 #[unsafe(no_mangle)]
-pub extern "C" fn node_horizon(
+pub extern "C" fn node_raise(
     alloc: Global,
     handle: &mut Handle,
     time: u64,
@@ -559,41 +549,6 @@ pub extern "C" fn node_horizon(
     };
     *horizon = node.raise(time);
     put_back(handle, node, Ok(()))
-}
-
-/// Writes each dirty page back to its device, and flushes the unflushed devices.
-///
-/// # Errors
-/// 12: a write or a flush failed. Of what a caller sees, only counts of failures have changed.
-#[unsafe(no_mangle)]
-pub extern "C" fn node_write_back(alloc: Global, handle: &mut Handle) -> i32
-    ensures { OnHandle NodeWritesBack handle.old.held.node result handle.new.held.node }
-{
-    on_open(alloc, handle, |node| node.write_back())
-}
-
-/// Writes back at most `limit` dirty pages, and writes how many are dirty still. No device is
-/// flushed.
-///
-/// # Errors
-/// 12: a write failed. Of what a caller sees, only counts of failures have changed; `left` is
-/// unchanged.
-#[unsafe(no_mangle)]
-pub extern "C" fn node_write_back_some(
-    alloc: Global,
-    handle: &mut Handle,
-    limit: usize,
-    left: &mut usize,
-) -> i32
-    ensures called { OnHandle (WritesSome limit left.old left.new) handle.old.held.node result
-        handle.new.held.node }
-    ensures closed { handle.old.held.node ≡ None → left.new ≡ left.old }
-{
-    let Some(mut node) = handle.take(alloc) else {
-        return closed();
-    };
-    let done = node.write_back_some(limit, left);
-    put_back(handle, node, done)
 }
 
 /// Writes back one page, where it is in a frame and dirty, and writes whether it was, 1 or 0. No
@@ -627,10 +582,10 @@ pub extern "C" fn node_write_back_page(
 /// - 4: there is no device of this number.
 /// - 12: a write or the flush failed.
 #[unsafe(no_mangle)]
-pub extern "C" fn node_flush(alloc: Global, handle: &mut Handle, dev: u16) -> i32
+pub extern "C" fn node_flush_device(alloc: Global, handle: &mut Handle, dev: u16) -> i32
     ensures { OnHandle (FlushesDevice dev) handle.old.held.node result handle.new.held.node }
 {
-    on_open(alloc, handle, |node| node.flush(dev))
+    on_open(alloc, handle, |node| node.flush_device(dev))
 }
 
 /// Evicts the pages of a device with the number `from` and above without writing them.
@@ -640,10 +595,10 @@ pub extern "C" fn node_flush(alloc: Global, handle: &mut Handle, dev: u16) -> i3
 /// - 4: there is no device of this number.
 /// - 11: one of the pages is pinned.
 #[unsafe(no_mangle)]
-pub extern "C" fn node_forget(alloc: Global, handle: &mut Handle, dev: u16, from: u64) -> i32
+pub extern "C" fn node_forget_pages(alloc: Global, handle: &mut Handle, dev: u16, from: u64) -> i32
     ensures { OnHandle (ForgetsPages dev from) handle.old.held.node result handle.new.held.node }
 {
-    on_open(alloc, handle, |node| node.forget(dev, from))
+    on_open(alloc, handle, |node| node.forget_pages(dev, from))
 }
 
 /// Replaces a device with one over another descriptor: the pages of the old one are written back,

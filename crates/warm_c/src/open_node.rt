@@ -1,6 +1,5 @@
 //! The node that an open handle holds, and its devices.
-use crate::fd_device::FdDevice;
-use crate::values::WarmDevice;
+use warm_c_base::{FdDevice, WarmDevice};
 use warm_gossip::Node;
 use warm_stamps::Items;
 

@@ -7,19 +7,18 @@ use crate::lending::address_of;
 use crate::open_node::OpenNode;
 use crate::open_peer::OpenPeer;
 use crate::shard_parts::{check_part, entries_of_shard};
-use crate::status::Refusal;
-use crate::values::{PinnedSlot, WarmPage};
 use std::alloc::Global;
+use warm_c_base::{PinnedSlot, Refusal, WarmPage};
 use warm_frames::{Message, decode};
 use warm_shards::{fill_digests, part_of_message};
 
 impl OpenNode {
     /// Calls [`warm_gossip::Node::pin`], and writes the slot and the address of the page's bytes,
-    /// which stay there as [`OpenNode::lend`] says.
+    /// which stay there as [`OpenNode::bytes`] says.
     ///
     /// # Errors
     /// `Node`: the node's own. The slot and the pointer are unchanged.
-    pub fn pin_lend(
+    pub fn pin_bytes(
         &mut self,
         page: WarmPage,
         slot: &mut PinnedSlot,

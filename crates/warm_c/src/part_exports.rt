@@ -15,9 +15,8 @@ use crate::frame_parts::{
 };
 use crate::handle::Handle;
 use crate::peer_handle::PeerHandle;
-use crate::status::status_of;
-use crate::values::{PinnedSlot, WarmDevice, WarmPage};
 use std::alloc::Global;
+use warm_c_base::{PinnedSlot, WarmDevice, WarmPage, status_of};
 
 /// Pins a page as [`crate::node_pin`] does, and writes the address of its bytes, to be read.
 ///
@@ -25,7 +24,7 @@ use std::alloc::Global;
 /// 4 to 9, in the order of [`warm_pool::Pool::pin`]. The slot and the pointer are unchanged, and of
 /// the node only counts of failures have changed.
 #[unsafe(no_mangle)]
-pub extern "C" fn node_pin_lend(
+pub extern "C" fn node_pin_bytes(
     alloc: Global,
     handle: &mut Handle,
     page: WarmPage,
@@ -40,7 +39,7 @@ pub extern "C" fn node_pin_lend(
     let Some(mut node) = handle.take(alloc) else {
         return closed();
     };
-    let done = node.pin_lend(page, slot, bytes);
+    let done = node.pin_bytes(page, slot, bytes);
     put_back(handle, node, done)
 }
 
@@ -220,11 +219,11 @@ pub extern "C" fn node_join_part(
     put_back(into, node, done)
 }
 
-/// Returns whether [`crate::node_forget`] would forget these pages: so several nodes forget
+/// Returns whether [`crate::node_forget_pages`] would forget these pages: so several nodes forget
 /// together or not at all.
 ///
 /// # Errors
-/// Those of `node_forget`. Nothing changes in any case.
+/// Those of `node_forget_pages`. Nothing changes in any case.
 #[unsafe(no_mangle)]
 pub extern "C" fn node_may_forget(alloc: Global, handle: &mut Handle, dev: u16, from: u64) -> i32
     ensures { OnHandle (SaysMayForget dev from) handle.old.held.node result handle.new.held.node }

@@ -5,15 +5,12 @@ ghost use Rattle.warm_dump.specs.Dumps.{dump_of};
 ghost use Rattle.warm_c.specs.Calls.{SaveRefused, Saves};
 ghost use Rattle.warm_c.specs.Peers.{GathersNode, ListsHottest, LoadsPeer};
 
-use crate::descriptor::Descriptor;
-use crate::dump_file::{FileReader, FileWriter};
 use crate::history_calls::{c_pages, put_pages};
 use crate::open_node::OpenNode;
 use crate::open_peer::OpenPeer;
-use crate::status::Refusal;
-use crate::values::WarmPage;
 use std::alloc::Global;
 use std::io::{Read, Write};
+use warm_c_base::{Descriptor, FileReader, FileWriter, Refusal, WarmPage};
 use warm_dump::{read_dump, write_dump};
 use warm_history::laws::prove_is_history;
 use warm_rank::warm_list;

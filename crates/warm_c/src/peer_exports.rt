@@ -6,16 +6,14 @@ ghost use Rattle.warm_c.specs.Calls.{Saves};
 ghost use Rattle.warm_c.specs.Handles.{OnHandle};
 ghost use Rattle.warm_c.specs.PartCalls.{OnTwoHandles};
 ghost use Rattle.warm_c.specs.Peers.{GathersNode, ListsHottest, LoadsPeer, OpensPeer};
-ghost use Rattle.warm_c.specs.Statuses.{status_of};
+ghost use Rattle.warm_c_base.specs.Statuses.{status_of};
 
 use crate::called::closed;
-use crate::descriptor::Descriptor;
 use crate::handle::Handle;
 use crate::open_peer::OpenPeer;
 use crate::peer_handle::PeerHandle;
-use crate::status::{Refusal, status_of};
-use crate::values::WarmPage;
 use std::alloc::Global;
+use warm_c_base::{Descriptor, Refusal, WarmPage, status_of};
 use warm_gossip::NodeFault;
 use warm_peer::Peer;
 use warm_stamps::ReplicaId;

@@ -6,7 +6,7 @@ ghost use Rattle.std.specs.Prelude.{◌≡◌, Option, Some, None, IsSome};
 ghost use Rattle.std.specs.contracts.impls.GlobalAllocator.TheImpl.{ghosts};
 ghost use Rattle.warm_c.specs.contracts.open_peer.OpenPeer.{the_row as peer_row};
 ghost use Rattle.warm_c.specs.declared.open_peer.OpenPeer.{OpenPeer};
-ghost use Rattle.warm_c.specs.Owning.{pointer_owns};
+ghost use Rattle.warm_c.specs.Ownership.{pointer_owns};
 
 use crate::open_peer::OpenPeer;
 use crate::raw_box::RawBox;

@@ -3,13 +3,12 @@ ghost use Rattle.std.specs.Prelude.{◌↔◌, IfErr, IfOk, IsTrue};
 ghost use Rattle.warm_pool.specs.View.{view_of, IsResident};
 ghost use Rattle.warm_gossip.specs.declared.call.Call.TheVariants.{Victim, WarmStep};
 ghost use Rattle.warm_gossip.specs.declared.call.Reply.TheVariants.{Loaded, Page};
-ghost use Rattle.warm_c.specs.Calls.{NodeWritesBack, Pins, ReadsSlot, RefusedByNode, Replies};
-ghost use Rattle.warm_c.specs.Calls.{Unpins, Writes};
-ghost use Rattle.warm_c.specs.Values.{page_of_c};
+ghost use Rattle.warm_c.specs.Calls.{Pins, ReadsSlot, RefusedByNode, Replies, Unpins};
+ghost use Rattle.warm_c.specs.Calls.{Writes};
+ghost use Rattle.warm_c_base.specs.Values.{page_of_c};
 
 use crate::open_node::OpenNode;
-use crate::status::Refusal;
-use crate::values::{PinnedSlot, WarmPage, WarmSlot};
+use warm_c_base::{PinnedSlot, Refusal, WarmPage, WarmSlot};
 use warm_stamps::PageId;
 
 impl OpenNode {
@@ -82,16 +81,5 @@ impl OpenNode {
     {
         let loaded = self.node.warm_step()?;
         Ok(loaded)
-    }
-
-    /// Calls [`warm_gossip::Node::write_back`].
-    ///
-    /// # Errors
-    /// `Node`: the node's own.
-    pub fn write_back(&mut self) -> Result<(), Refusal>
-        ensures { NodeWritesBack self.old result self.new }
-    {
-        self.node.write_back()?;
-        Ok(())
     }
 }

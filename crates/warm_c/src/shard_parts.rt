@@ -6,8 +6,8 @@ ghost use Rattle.warm_shards.specs.Shards.{IsShardCount, shard_of};
 ghost use Rattle.warm_c.specs.Parts.{HasBits, IsNoShardNumber, IsShardNumber, entry_pages};
 ghost use Rattle.warm_c.specs.Parts.{shard_buckets, shards_of};
 
-use crate::status::Refusal;
 use std::alloc::{AllocError, Global};
+use warm_c_base::Refusal;
 use warm_history::{Entry, History};
 use warm_shards::{is_shard_count, shard_of};
 use warm_stamps::{Bucket, PageId};

@@ -10,14 +10,15 @@ use Rattle.warm_gossip.specs.State.{NodeState}
 use Rattle.warm_shards.specs.Shards.{no_shard, shard_at}
 use Rattle.warm_concurrent.specs.Attached.{AreOf, AttachedView, Known, ShardPass, ShardTurn, known_of, shard_pass, shard_turn}
 use Rattle.warm_concurrent.specs.Opening.{AreClosed, ClosesShard, openings, shards_over}
-use Rattle.warm_concurrent.specs.Pins.{ClosesUnpinned, IsCounted, NoneIsPinned, PinsComeBack, all_pins, calls_held, pin_by, pins_in, pool_pins, unpin_by}
+use Rattle.warm_concurrent.specs.Pins.{ClosesUnpinned, IsCounted, NoneIsPinned, PinsComeBack, all_pins, calls_held}
+use Rattle.warm_shard_machine.specs.Pins.{pin_by, pins_in, pool_pins, unpin_by}
 use Rattle.warm_concurrent.proofs.Headline.{closed_node, opened_node, turns_long}
 use Rattle.warm_concurrent.proofs.LawsHold.{below}
 use Rattle.warm_concurrent.proofs.LogPins.{log_total, total}
 use Rattle.warm_concurrent.specs.Rights.{HasWholeRight}
-use Rattle.warm_concurrent.proofs.PoolPins.{IsFree, pool_free}
+use Rattle.warm_shard_machine.proofs.PoolPinLemmas.{IsFree, pool_free}
 use Rattle.warm_concurrent.proofs.Rights.{closed_gives_back}
-use Rattle.warm_concurrent.proofs.StepPins.{run_moves}
+use Rattle.warm_shard_machine.proofs.ShardPinLemmas.{run_moves}
 use Rattle.warm_concurrent.proofs.ThreadPins.{thread_is, weight}
 
 -- one shard: its log has the calls that the pass holds, and no others

@@ -9,7 +9,7 @@ use Rattle.warm_concurrent.specs.declared.answering.Offered.{Offered}
 use Rattle.warm_concurrent.specs.Answering.{FirstGave, IsGathered, IsLatest, no_offer, offer_at}
 use Rattle.warm_concurrent.specs.Attached.{KeepsOtherPasses, ShardPass, shard_pass}
 use Rattle.warm_concurrent.specs.Whole.{First}
-use Rattle.warm_concurrent.proofs.Firsts.{none_first, one_first, same_first}
+use Rattle.warm_concurrent.proofs.FirstLemmas.{none_first, one_first, same_first}
 use Rattle.warm_concurrent.proofs.Places.{get_front, get_last}
 
 module _ {T : Type 0} (So : T → ℕ → ShardPass → ShardPass → Type 0) (none : T) where

@@ -1,87 +1,48 @@
 -- All shards together have what they were given.
 use Rattle.std.proofs.Common.{◌≡◌, ℕ, zero, suc, ◌<◌, List, [], ◌∷◌, ◌++◌, length, map, get_or, Result, Ok, refl, sym, ap, subst, ◌∙◌, arith}
 use Rattle.std.proofs.lemmas.List.{get_or-map, length-append, length-map}
-use Rattle.warm_history.specs.ReferenceSets.{ReferenceSet, ◌∪◌}
+use Rattle.warm_history.specs.ReferenceSets.{ReferenceSet, set_of_list, ◌∪◌}
 use Rattle.warm_history.specs.Histories.{StandsFor, history, references_of}
 use Rattle.warm_history.proofs.JoinLemmas.{both_assoc, history_first, history_of_own_references, history_second}
 use Rattle.warm_turn.specs.declared.fault.Busy.{Busy}
+use Rattle.warm_machine.specs.declared.operation.Operation.{Operation}
 use Rattle.warm_machine.specs.Runs.{Runs}
 use Rattle.warm_gossip.specs.State.{NodeState}
 use Rattle.warm_shards.specs.Shards.{held, no_shard, shard_at, whole}
-use Rattle.warm_shards.proofs.Taking.{last_two}
-use Rattle.warm_concurrent.specs.declared.call.ShardCall.{ShardCall}
-use Rattle.warm_concurrent.specs.declared.call.ShardCall.TheVariants.{Absorb, Answer, Change, CopyHistory, FlushDevice, ForgetPages, Look, Offer, Pin, PinFilled, PinZeroed, Raise, Read, Retire, Send, SendSince, TakeIn, Unpin, Victim, WarmList, WarmNext, WarmStep, Write, WriteBack, WritePage, WritePages, WriteSome}
-use Rattle.warm_concurrent.specs.declared.call.ShardReply.{ShardReply}
-use Rattle.warm_concurrent.specs.declared.call.ShardReply.TheVariants.{Done, Foreign, Kept}
+use Rattle.warm_shards.proofs.WholeLemmas.{last_two}
+use Rattle.warm_shard_machine.specs.declared.calls.ShardCall.{ShardCall}
+use Rattle.warm_shard_machine.specs.declared.calls.ShardCall.TheVariants.{Absorb, Raise, TakeIn}
+use Rattle.warm_shard_machine.specs.declared.calls.ShardReply.{ShardReply}
+use Rattle.warm_shard_machine.specs.declared.calls.ShardReply.TheVariants.{Done, Foreign, Kept}
 use Rattle.warm_concurrent.specs.Attached.{Known, ShardPass, ShardTurn, known_of, shard_turn}
-use Rattle.warm_concurrent.specs.Given.{IsLog, Log, SharedIsOfGiven, gave, gave_call, gave_together, log_at}
-use Rattle.warm_concurrent.specs.Laws.{asked_steps, given_by_steps, given_to_shard, node_steps}
+use Rattle.warm_concurrent.specs.Given.{IsLog, SharedIsOfGiven, gave, gave_call, gave_together, log_at}
+use Rattle.warm_shard_machine.specs.Laws.{Log, asked_steps, given_by_steps, given_to_shard, node_steps}
 use Rattle.warm_concurrent.specs.Opening.{AreClosed, ClosesShard, openings, shards_over, state_at}
-use Rattle.warm_concurrent.specs.ShardSteps.{ShardState, ShardStep, asked_of}
-use Rattle.warm_concurrent.proofs.Holding.{node_at}
-use Rattle.warm_concurrent.proofs.LawsHold.{given_after, shard_is_of_given}
-use Rattle.warm_concurrent.proofs.Numbering.{from_long, opening_at}
+use Rattle.warm_shard_machine.specs.ShardSteps.{ShardState, ShardStep, Work, asked_of}
+use Rattle.warm_concurrent.proofs.HoldsShardLemmas.{node_at}
+use Rattle.warm_shard_machine.proofs.NodeStepLemmas.{foreign_none, given_after, shard_is_of_given}
+use Rattle.warm_concurrent.proofs.NumberedLemmas.{from_long, opening_at}
 use Rattle.warm_concurrent.proofs.Places.{push_each}
 use Rattle.warm_concurrent.proofs.Sets.{union_none}
 
 -- ---- what a call gave, and what it gave the node
 
+foreign_gave : (c : ShardCall) → gave_call c Foreign ≡ set_of_list []
+foreign_gave (Absorb batch) = refl
+foreign_gave c = refl
+
 call_gave : (S : ReferenceSet) (by : ℕ) (c : ShardCall) (r : ShardReply)
     → given_by_steps S (asked_steps by (asked_of c) r) ≡ S ∪ gave_call c r
+call_gave S by c Foreign =
+    ap (λ (es : List (Operation Work ShardReply)). given_by_steps S es) (foreign_none by (asked_of c))
+    ∙ sym (union_none S) ∙ ap (λ T. S ∪ T) (sym (foreign_gave c))
 call_gave S by (Absorb batch) Done = refl
 call_gave S by (Absorb batch) r = sym (union_none S)
 call_gave S by (Raise time) (Kept horizon) = refl
 call_gave S by (Raise time) r = sym (union_none S)
 call_gave S by (TakeIn horizon es) Done = refl
 call_gave S by (TakeIn horizon es) r = sym (union_none S)
-call_gave S by (Answer request) Foreign = sym (union_none S)
-call_gave S by (Answer request) r = sym (union_none S)
-call_gave S by (Pin page) Foreign = sym (union_none S)
-call_gave S by (Pin page) r = sym (union_none S)
-call_gave S by (PinZeroed page) Foreign = sym (union_none S)
-call_gave S by (PinZeroed page) r = sym (union_none S)
-call_gave S by (PinFilled page bytes) Foreign = sym (union_none S)
-call_gave S by (PinFilled page bytes) r = sym (union_none S)
-call_gave S by (Unpin slot) Foreign = sym (union_none S)
-call_gave S by (Unpin slot) r = sym (union_none S)
-call_gave S by (Read slot at len) Foreign = sym (union_none S)
-call_gave S by (Read slot at len) r = sym (union_none S)
-call_gave S by (Write slot at bytes) Foreign = sym (union_none S)
-call_gave S by (Write slot at bytes) r = sym (union_none S)
-call_gave S by Victim Foreign = sym (union_none S)
-call_gave S by Victim r = sym (union_none S)
-call_gave S by WarmStep Foreign = sym (union_none S)
-call_gave S by WarmStep r = sym (union_none S)
-call_gave S by WarmNext Foreign = sym (union_none S)
-call_gave S by WarmNext r = sym (union_none S)
-call_gave S by (WarmList n) Foreign = sym (union_none S)
-call_gave S by (WarmList n) r = sym (union_none S)
-call_gave S by Offer Foreign = sym (union_none S)
-call_gave S by Offer r = sym (union_none S)
-call_gave S by (Send bucket after) Foreign = sym (union_none S)
-call_gave S by (Send bucket after) r = sym (union_none S)
-call_gave S by (SendSince bucket since after) Foreign = sym (union_none S)
-call_gave S by (SendSince bucket since after) r = sym (union_none S)
-call_gave S by CopyHistory Foreign = sym (union_none S)
-call_gave S by CopyHistory r = sym (union_none S)
-call_gave S by WritePages Foreign = sym (union_none S)
-call_gave S by WritePages r = sym (union_none S)
-call_gave S by (WriteSome limit) Foreign = sym (union_none S)
-call_gave S by (WriteSome limit) r = sym (union_none S)
-call_gave S by (WritePage page) Foreign = sym (union_none S)
-call_gave S by (WritePage page) r = sym (union_none S)
-call_gave S by (FlushDevice dev) Foreign = sym (union_none S)
-call_gave S by (FlushDevice dev) r = sym (union_none S)
-call_gave S by WriteBack Foreign = sym (union_none S)
-call_gave S by WriteBack r = sym (union_none S)
-call_gave S by (ForgetPages dev from) Foreign = sym (union_none S)
-call_gave S by (ForgetPages dev from) r = sym (union_none S)
-call_gave S by (Retire dev told) Foreign = sym (union_none S)
-call_gave S by (Retire dev told) r = sym (union_none S)
-call_gave S by (Look page) Foreign = sym (union_none S)
-call_gave S by (Look page) r = sym (union_none S)
-call_gave S by (Change page) Foreign = sym (union_none S)
-call_gave S by (Change page) r = sym (union_none S)
+call_gave S by c r = sym (union_none S)
 
 pub shard_gave : (S : ReferenceSet) (log : Log) → given_to_shard S log ≡ S ∪ gave log
 shard_gave S [] = sym (union_none S)

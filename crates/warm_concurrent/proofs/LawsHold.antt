@@ -1,214 +1,30 @@
 -- The laws of shared shards.
 use Rattle.std.specs.Prelude.{slice_index_or}
 use Rattle.std.proofs.lemmas.List.{length-set}
-use Rattle.std.proofs.Common.{◌≡◌, ◌⊎◌, inl, inr, ℕ, zero, suc, ◌<◌, ◌≤◌, List, [], ◌∷◌, ◌++◌, length, Option, Some, None, refl, sym, ap, subst, ◌∙◌, arith, append-nil}
+use Rattle.std.proofs.Common.{◌≡◌, ◌⊎◌, inl, inr, ℕ, zero, suc, ◌<◌, ◌≤◌, List, [], ◌∷◌, length, refl, sym, ap, subst, ◌∙◌, arith, append-nil}
 use mathlib.Core.List.{IsPrefix}
-use Rattle.warm_history.specs.ReferenceSets.{ReferenceSet, ◌∪◌}
-use Rattle.warm_history.specs.declared.hist.Entry.{Entry}
-use Rattle.warm_history.specs.Histories.{history, history_of_entries_at, references_of}
+use Rattle.warm_history.specs.ReferenceSets.{◌∪◌}
+use Rattle.warm_history.specs.Histories.{history, references_of}
 use Rattle.warm_history.proofs.JoinLemmas.{history_first, history_second}
-use Rattle.warm_machine.specs.declared.operation.Operation.{Operation}
-use Rattle.warm_machine.specs.Runs.{Runs, operation}
 use Rattle.warm_turn.specs.CallHistories.{marked}
-use Rattle.warm_turn.proofs.Passes.{Extended-called, Widened-joined}
-use Rattle.warm_pool.specs.declared.fault.PoolFault.TheVariants.{SizeDiffers}
-use Rattle.warm_gossip.specs.Clauses.{JoinsEntries, NodeWriteBackFails, SameView}
-use Rattle.warm_gossip.specs.State.{NodeState, NodeView, node_view}
-use Rattle.warm_gossip.specs.declared.call.Call.{Call}
-use Rattle.warm_gossip.specs.declared.call.Call.TheVariants as node_call
-use Rattle.warm_gossip.specs.declared.call.Reply.{Reply}
-use Rattle.warm_gossip.specs.declared.call.Reply.TheVariants as node_reply
-use Rattle.warm_gossip.specs.declared.fault.NodeFault.{NodeFault}
-use Rattle.warm_gossip.specs.declared.fault.NodeFault.TheVariants.{Memory, Pool}
-use Rattle.warm_gossip.proofs.Given.{told_is_history}
+use Rattle.warm_turn.proofs.PassLemmas.{Extended-called, Widened-joined}
 use Rattle.warm_frames.specs.declared.message.Message.{Message}
-use Rattle.warm_frames.specs.declared.message.Message.TheVariants.{Entries}
 use Rattle.warm_stamps.specs.declared.Reference.{Reference}
 use Rattle.warm_shards.specs.Parts.{part_of_batch}
-use Rattle.warm_concurrent.specs.declared.call.ShardCall.{ShardCall}
-use Rattle.warm_concurrent.specs.declared.call.ShardCall.TheVariants.{Absorb, Answer, CopyHistory, Offer}
-use Rattle.warm_concurrent.specs.declared.call.ShardReply.{ShardReply}
-use Rattle.warm_concurrent.specs.declared.call.ShardReply.TheVariants.{Answers, Changed, Copied, Dirty, Done, Foreign, Kept, Looked, Page, Pinned, Portion, Refused, Replaced, WasDirty}
+use Rattle.warm_shard_machine.specs.declared.calls.ShardCall.{ShardCall}
+use Rattle.warm_shard_machine.specs.declared.calls.ShardCall.TheVariants.{Absorb, Answer, CopyHistory, Offer}
+use Rattle.warm_shard_machine.specs.declared.calls.ShardReply.{ShardReply}
+use Rattle.warm_shard_machine.specs.declared.calls.ShardReply.TheVariants.{Answers, Copied, Done, Kept, Refused}
 use Rattle.warm_concurrent.specs.declared.fault.SharedFault.{SharedFault}
 use Rattle.warm_concurrent.specs.declared.fault.SharedFault.TheVariants.{Node, TurnsSpent}
 use Rattle.warm_concurrent.specs.Answering.{AnswersPart, Offers, offer_at, offer_reply}
 use Rattle.warm_concurrent.specs.Attached.{KeepsOtherPasses, Known, ShardPass, known_of, no_pass, shard_pass}
 use Rattle.warm_concurrent.specs.Clauses.{CallFails, Got}
 use Rattle.warm_concurrent.specs.Copying.{GivesCopy, no_history}
-use Rattle.warm_concurrent.specs.Laws.{CallsAreANodes, OnlySeesMore, OverCalls, SeesMore, ShardIsOfGiven, TogetherAreOfGiven, all_of, asked_steps, given_by_reply, given_by_step, given_by_steps, held_by, node_steps}
-use Rattle.warm_concurrent.specs.ShardSteps.{Asked, doing, looking, changing, CallGoes, NodeGoes, NodeStep, ShardState, ShardStep, Work, calling, writing_pages, writing_some, writing_page, writing_back, flushing, zeroing, filling, naming_next, forgetting, taking_in, answering, sending_since, copying, retiring, asked_of, node_reply_of}
+use Rattle.warm_concurrent.specs.Laws.{OnlySeesMore, OverCalls, SeesMore, TogetherAreOfGiven, all_of, held_by}
+use Rattle.warm_shard_machine.specs.ShardSteps.{ShardStep}
 use Rattle.warm_concurrent.specs.Whole.{AbsorbsPart, Does, First, RaisesShard, TakesPart, part_call}
 use Rattle.warm_concurrent.proofs.Places.{at_each}
-
--- ---- the steps of a shard are a node's
-
--- a node never answers that a page is of another shard
-not_foreign : (x y : NodeState) (w : Work) → NodeStep x w Foreign y → ⊥
-not_foreign x y (calling c) step = step
-not_foreign x y writing_pages step = step
-not_foreign x y (writing_some limit) step = step
-not_foreign x y (writing_page p) step = step
-not_foreign x y writing_back step = step
-not_foreign x y (flushing dev) step = step
-not_foreign x y (zeroing p) step = step
-not_foreign x y (filling p bytes) step = step
-not_foreign x y naming_next step = step
-not_foreign x y (forgetting dev from) step = step
-not_foreign x y (taking_in horizon es) step = step
-not_foreign x y (answering request) step = step
-not_foreign x y (sending_since bucket since after) step = step
-not_foreign x y copying step = step
-not_foreign x y (retiring dev told) step = step
-
-asked_run : (x y : NodeState) (by : ℕ) (a : Asked) (r : ShardReply) → NodeGoes x a r y
-    → Runs NodeStep x (asked_steps by a r) y
-asked_run x y by (doing w) Foreign step = absurd (not_foreign x y w step)
-asked_run x y by (doing w) r step = (y, step, refl)
-asked_run x y by (looking p) (Looked slot bytes) step = (step.mid, step.pins, (y, step.unpins, refl))
-asked_run x y by (looking p) (Refused why) step = (y, step, refl)
-asked_run x y by (looking p) r step = absurd step
-asked_run x y by (changing p) (Changed slot before after) step = (step.mid, step.pins, (step.left, step.writes, (y, step.unpins, refl)))
-asked_run x y by (changing p) (Refused why) step = (y, step, refl)
-asked_run x y by (changing p) r step = absurd step
-
-foreign_none : (by : ℕ) (a : Asked) → asked_steps by a Foreign ≡ []
-foreign_none by (doing w) = refl
-foreign_none by (looking p) = refl
-foreign_none by (changing p) = refl
-
-shard_run : (o y : ShardState) (by : ℕ) (c : ShardCall) (r : ShardReply) → ShardStep o c r y
-    → Runs NodeStep o.node (asked_steps by (asked_of c) r) y.node
-shard_run o y by c Foreign step =
-    subst (λ (es : List (Operation Work ShardReply)). Runs NodeStep o.node es y.node) (sym (foreign_none by (asked_of c))) (ap (λ (s : ShardState). s.node) (sym step.1))
-shard_run o y by c r step = asked_run o.node y.node by (asked_of c) r step.2
-
--- one run after another
-runs_on : {X C R : Type 0} (goes : X → C → R → X → Type 0) (x y z : X) (xs ys : List (Operation C R))
-    → Runs goes x xs y → Runs goes y ys z → Runs goes x (xs ++ ys) z
-runs_on goes x y z [] ys one rest = subst (λ w. Runs goes w ys z) (sym one) rest
-runs_on goes x y z (e ∷ xs) ys one rest = (one.0, one.1, runs_on goes one.0 y z xs ys one.2 rest)
-
-pub calls_are_a_nodes : CallsAreANodes
-calls_are_a_nodes o z [] runs = ap (λ (s : ShardState). s.node) runs
-calls_are_a_nodes o z (e ∷ es) runs =
-    runs_on NodeStep o.node runs.0.node z.node (asked_steps e.by (asked_of e.call) e.reply) (node_steps es)
-    (shard_run o runs.0 e.by e.call e.reply runs.1) (calls_are_a_nodes runs.0 z es runs.2)
-
--- ---- what a shard was given
-
-pub given_after : (S : ReferenceSet) (xs ys : List (Operation Work ShardReply))
-    → given_by_steps (given_by_steps S xs) ys ≡ given_by_steps S (xs ++ ys)
-given_after S [] ys = refl
-given_after S (e ∷ xs) ys = given_after (given_by_step S e.call e.reply) xs ys
-
--- after a call a node has the history of what it was given
-call_given : (S : ReferenceSet) (o y : NodeState) (c : Call) (k : Option Reply)
-    → o.history ≡ history S → CallGoes o c k y → y.history ≡ history (given_by_reply S c k)
-call_given S o y c None stands step = absurd step
-call_given S o y c (Some r) stands step =
-    told_is_history S (node_view o) (node_view y) (operation 0 c r ∷ []) stands (node_view y, step.0, refl)
-
--- after it took entries in, it has that of what they bring too, as if it had received them
-taken_given : (S : ReferenceSet) (o y : NodeState) (horizon : ℕ) (es : List Entry)
-    → o.history ≡ history S → JoinsEntries o horizon es y
-    → y.history ≡ history (S ∪ references_of (history_of_entries_at horizon es))
-taken_given S o y horizon es stands joins =
-    let received = operation 0 (node_call.Receive (Entries 0 horizon es)) (node_reply.Answers []) in
-    told_is_history S (node_view o) (node_view y) (received ∷ []) stands (node_view y, (refl, joins), refl)
-
--- the history that a caller sees is unchanged
-same_history : (o y : NodeState) → SameView o y → y.history ≡ o.history
-same_history o y same = ap (λ (n : NodeView). n.history) same
-
-failed_history : (o y : NodeState) (why : NodeFault) → NodeWriteBackFails o why y
-    → y.history ≡ o.history
-failed_history o y why fails = ap (λ (n : NodeView). n.history) fails.1.0
-
--- so it is beside the calls, and the entries that are taken in
-abbrev IsBeside : Work → Type 0
-IsBeside (calling c) = ⊥
-IsBeside (taking_in horizon es) = ⊥
-IsBeside w = Unit {0}
-
-beside : (o y : NodeState) (w : Work) (r : ShardReply) → IsBeside w → NodeStep o w r y
-    → y.history ≡ o.history
-beside o y (calling c) r not step = absurd not
-beside o y (taking_in horizon es) r not step = absurd not
-beside o y writing_pages Done is step = same_history o y step.0
-beside o y writing_pages (Refused why) is step = failed_history o y why step.0
-beside o y writing_pages r is step = absurd step
-beside o y (writing_some limit) (Dirty left) is step = same_history o y step.0
-beside o y (writing_some limit) (Refused why) is step = failed_history o y why step.0
-beside o y (writing_some limit) r is step = absurd step
-beside o y (writing_page p) (WasDirty was_dirty) is step = step.0.history
-beside o y (writing_page p) (Refused why) is step = step.0.history
-beside o y (writing_page p) r is step = absurd step
-beside o y (flushing dev) Done is step = step.0.history
-beside o y (flushing dev) (Refused why) is step = step.0.history
-beside o y (flushing dev) r is step = absurd step
-beside o y writing_back Done is step = same_history o y step.0
-beside o y writing_back (Refused why) is step = failed_history o y why step.0
-beside o y writing_back r is step = absurd step
-beside o y (zeroing p) (Pinned slot) is step = step.0.history
-beside o y (zeroing p) (Refused why) is step = step.0.history
-beside o y (zeroing p) r is step = absurd step
-beside o y (filling p bytes) (Pinned slot) is step = ap (λ (n : NodeView). n.history) step.1.0
-beside o y (filling p bytes) (Refused (Pool SizeDiffers)) is step = ap (λ (n : NodeState). n.history) step.1
-beside o y (filling p bytes) (Refused (Pool _)) is step = ap (λ (n : NodeView). n.history) step.1.0
-beside o y (filling p bytes) (Refused Memory) is step = ap (λ (n : NodeState). n.history) step
-beside o y (filling p bytes) r is step = absurd step
-beside o y naming_next (Page next) is step = ap (λ (n : NodeState). n.history) step.1
-beside o y naming_next (Refused why) is step = ap (λ (n : NodeState). n.history) step.1
-beside o y naming_next r is step = absurd step
-beside o y (forgetting dev from) Done is step = step.0.history
-beside o y (forgetting dev from) (Refused why) is step = step.0.history
-beside o y (forgetting dev from) r is step = absurd step
-beside o y (answering request) (Answers messages) is step = ap (λ (n : NodeState). n.history) step.1
-beside o y (answering request) (Refused why) is step = ap (λ (n : NodeState). n.history) step.1
-beside o y (answering request) r is step = absurd step
-beside o y (sending_since bucket since after) (Portion message more) is step = ap (λ (n : NodeState). n.history) step.2
-beside o y (sending_since bucket since after) (Refused why) is step = ap (λ (n : NodeState). n.history) step.1
-beside o y (sending_since bucket since after) r is step = absurd step
-beside o y copying (Copied h) is step = ap (λ (n : NodeState). n.history) step.1
-beside o y copying (Refused why) is step = ap (λ (n : NodeState). n.history) step.1
-beside o y copying r is step = absurd step
-beside o y (retiring dev told) Done is step = step.2.history
-beside o y (retiring dev told) (Replaced given) is step = step.4.history
-beside o y (retiring dev told) (Refused (Pool _)) is step = step.2.history
-beside o y (retiring dev told) (Refused Memory) is step = ap (λ (n : NodeState). n.history) step
-beside o y (retiring dev told) r is step = absurd step
-
--- after one step a node has the history of what it was given
-one_given : (S : ReferenceSet) (o y : NodeState) (w : Work) (r : ShardReply)
-    → o.history ≡ history S → NodeStep o w r y → y.history ≡ history (given_by_step S w r)
-one_given S o y (calling c) r stands step = call_given S o y c (node_reply_of r) stands step
-one_given S o y (taking_in horizon es) Done stands step = taken_given S o y horizon es stands step.0
-one_given S o y (taking_in horizon es) (Refused why) stands step = same_history o y step.1 ∙ stands
-one_given S o y (taking_in horizon es) r stands step = absurd step
-one_given S o y writing_pages r stands step = beside o y writing_pages r tt step ∙ stands
-one_given S o y (writing_some limit) r stands step = beside o y (writing_some limit) r tt step ∙ stands
-one_given S o y (writing_page p) r stands step = beside o y (writing_page p) r tt step ∙ stands
-one_given S o y (flushing dev) r stands step = beside o y (flushing dev) r tt step ∙ stands
-one_given S o y writing_back r stands step = beside o y writing_back r tt step ∙ stands
-one_given S o y (zeroing p) r stands step = beside o y (zeroing p) r tt step ∙ stands
-one_given S o y (filling p bytes) r stands step = beside o y (filling p bytes) r tt step ∙ stands
-one_given S o y naming_next r stands step = beside o y naming_next r tt step ∙ stands
-one_given S o y (forgetting dev from) r stands step = beside o y (forgetting dev from) r tt step ∙ stands
-one_given S o y (answering request) r stands step = beside o y (answering request) r tt step ∙ stands
-one_given S o y (sending_since bucket since after) r stands step = beside o y (sending_since bucket since after) r tt step ∙ stands
-one_given S o y copying r stands step = beside o y copying r tt step ∙ stands
-one_given S o y (retiring dev told) r stands step = beside o y (retiring dev told) r tt step ∙ stands
-
--- and so after many
-steps_given : (S : ReferenceSet) (o z : NodeState) (es : List (Operation Work ShardReply))
-    → o.history ≡ history S → Runs NodeStep o es z
-    → z.history ≡ history (given_by_steps S es)
-steps_given S o z [] stands runs = ap (λ (n : NodeState). n.history) (sym runs) ∙ stands
-steps_given S o z (e ∷ es) stands runs =
-    steps_given (given_by_step S e.call e.reply) runs.0 z es (one_given S o runs.0 e.call e.reply stands runs.1) runs.2
-
-pub shard_is_of_given : ShardIsOfGiven
-shard_is_of_given S o z es stands runs = steps_given S o.node z.node (node_steps es) stands (calls_are_a_nodes o z es runs)
 
 pub together_are_of_given : TogetherAreOfGiven
 together_are_of_given [] [] stand = refl

@@ -6,10 +6,10 @@ use Rattle.warm_pool.specs.View.{FrameView}
 use Rattle.warm_gossip.specs.declared.fault.NodeFault.TheVariants.{StaleSlot}
 use Rattle.warm_machine.specs.Runs.{operation}
 use Rattle.warm_turn.specs.CallHistories.{calls_by}
-use Rattle.warm_concurrent.specs.declared.call.ShardCall.TheVariants.{Pin, Unpin}
-use Rattle.warm_concurrent.specs.declared.call.ShardReply.TheVariants.{Done, Pinned, Refused}
-use Rattle.warm_concurrent.specs.Given.{Log}
-use Rattle.warm_concurrent.specs.Pins.{LeadsTo, pins_in}
+use Rattle.warm_shard_machine.specs.declared.calls.ShardCall.TheVariants.{Pin, Unpin}
+use Rattle.warm_shard_machine.specs.declared.calls.ShardReply.TheVariants.{Done, Pinned, Refused}
+use Rattle.warm_shard_machine.specs.Laws.{Log}
+use Rattle.warm_shard_machine.specs.Pins.{LeadsTo, pins_in}
 
 abbrev page : ℕ → PageId
 page n = record { dev = 0; no = n }

@@ -3,7 +3,7 @@ use Rattle.std.proofs.Common.{◌≡◌, ℕ, List, [], ◌∷◌, ◌++◌, app
 use Rattle.std.proofs.lemmas.Grind.{flat_map-append}
 use Rattle.warm_frames.specs.declared.message.Message.{Message}
 use Rattle.warm_concurrent.specs.Answering.{IsPartOf}
-use Rattle.warm_concurrent.specs.ShardSteps.{AreOwnBuckets}
+use Rattle.warm_shard_machine.specs.ShardSteps.{AreOwnBuckets}
 
 -- a shard's part of a request has buckets of that shard alone
 pub part_owned : (count i request part : ℕ) → IsPartOf count i request part

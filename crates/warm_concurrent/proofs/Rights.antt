@@ -6,10 +6,10 @@ use Rattle.warm_turn.specs.declared.fault.Busy.{Busy}
 use Rattle.warm_turn.specs.declared.table.Share.{Share}
 use Rattle.warm_turn.specs.CallHistories.{marked}
 use Rattle.warm_turn.specs.Shares.{AsLarge, both, half, no_share, whole_share}
-use Rattle.warm_turn.proofs.Shares.{AsLarge-both, AsLarge-self, AsLarge-trans, both_assoc}
+use Rattle.warm_turn.proofs.ShareLemmas.{AsLarge-both, AsLarge-self, AsLarge-trans, both_assoc}
 use Rattle.warm_gossip.specs.State.{NodeState}
-use Rattle.warm_concurrent.specs.declared.call.ShardCall.{ShardCall}
-use Rattle.warm_concurrent.specs.declared.call.ShardReply.{ShardReply}
+use Rattle.warm_shard_machine.specs.declared.calls.ShardCall.{ShardCall}
+use Rattle.warm_shard_machine.specs.declared.calls.ShardReply.{ShardReply}
 use Rattle.warm_concurrent.specs.Attached.{Known, ShardPass, ShardTurn, known_of, shard_pass, shard_turn}
 use Rattle.warm_concurrent.specs.Clauses.{Got}
 use Rattle.warm_concurrent.specs.Laws.{OverCalls}

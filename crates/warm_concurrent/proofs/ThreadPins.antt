@@ -10,23 +10,24 @@ use Rattle.warm_machine.specs.Runs.{operation}
 use Rattle.warm_turn.specs.declared.table.EndedPass.{EndedPass}
 use Rattle.warm_turn.specs.CallHistories.{as_ended}
 use Rattle.warm_shards.specs.Parts.{part_of_batch}
-use Rattle.warm_concurrent.specs.declared.call.ShardCall.{ShardCall}
-use Rattle.warm_concurrent.specs.declared.call.ShardCall.TheVariants.{Absorb, Answer, CopyHistory, Offer, Pin, PinFilled, PinZeroed, Raise}
-use Rattle.warm_concurrent.specs.declared.call.ShardReply.{ShardReply}
-use Rattle.warm_concurrent.specs.declared.call.ShardReply.TheVariants.{Answers, Copied, Done, Kept, Refused}
+use Rattle.warm_shard_machine.specs.declared.calls.ShardCall.{ShardCall}
+use Rattle.warm_shard_machine.specs.declared.calls.ShardCall.TheVariants.{Absorb, Answer, CopyHistory, Offer, Pin, PinFilled, PinZeroed, Raise}
+use Rattle.warm_shard_machine.specs.declared.calls.ShardReply.{ShardReply}
+use Rattle.warm_shard_machine.specs.declared.calls.ShardReply.TheVariants.{Answers, Copied, Done, Kept, Refused}
 use Rattle.warm_concurrent.specs.declared.fault.SharedFault.{SharedFault}
 use Rattle.warm_concurrent.specs.declared.fault.SharedFault.TheVariants.{Node, TurnsSpent}
 use Rattle.warm_concurrent.specs.Answering.{AnswersPart, Offers, offer_at, offer_reply}
 use Rattle.warm_concurrent.specs.Attached.{AttachedView, KeepsOtherPasses, Known, ShardPass, ShardTurn, known_of, no_pass, shard_pass}
 use Rattle.warm_concurrent.specs.Clauses.{AnsweredByShard, CallFails, Got}
 use Rattle.warm_concurrent.specs.Copying.{GivesCopy, no_history}
-use Rattle.warm_concurrent.specs.Given.{Log}
+use Rattle.warm_shard_machine.specs.Laws.{Log}
 use Rattle.warm_concurrent.specs.Opening.{AreFirst, AreHalved, AreSplit, PassesAreJoined}
-use Rattle.warm_concurrent.specs.Pins.{CallsPin, HasPinned, IsCounted, PinsAreCounted, calls_held, pin_by, thread_calls, unpin_by}
+use Rattle.warm_concurrent.specs.Pins.{CallsPin, HasPinned, IsCounted, PinsAreCounted, calls_held, thread_calls}
+use Rattle.warm_shard_machine.specs.Pins.{pin_by, unpin_by}
 use Rattle.warm_concurrent.specs.Whole.{AbsorbsPart, Does, First, RaisesShard, TakesPart, part_call}
 use Rattle.warm_concurrent.proofs.LawsHold.{below}
 use Rattle.warm_concurrent.proofs.LogPins.{total}
-use Rattle.warm_concurrent.proofs.StepPins.{pin_refused, unpin_refused}
+use Rattle.warm_shard_machine.proofs.ShardPinLemmas.{pin_refused, unpin_refused}
 
 -- the calls of those that were ended into a pass
 abbrev ended_calls : List (EndedPass ShardCall ShardReply) → Log

@@ -12,10 +12,11 @@ use Rattle.warm_turn.specs.CallHistories.{EachIsBy, HoldsNumber, IsAmong, as_end
 use Rattle.warm_turn.specs.declared.fault.Busy.{Busy}
 use Rattle.warm_gossip.specs.State.{NodeState}
 use Rattle.warm_shards.specs.Shards.{IsShardCount}
-use Rattle.warm_concurrent.specs.declared.call.ShardCall.{ShardCall}
-use Rattle.warm_concurrent.specs.declared.call.ShardReply.{ShardReply}
+use Rattle.warm_shard_machine.specs.declared.calls.ShardCall.{ShardCall}
+use Rattle.warm_shard_machine.specs.declared.calls.ShardReply.{ShardReply}
 use Rattle.warm_concurrent.specs.Attached.{Known, ShardPass, ShardTurn, known_of}
-use Rattle.warm_concurrent.specs.Given.{AreLogs, HasMade, Log, SameGiven, TwoThreadsAreHeld, gave, gave_call, gave_together, log_at}
+use Rattle.warm_concurrent.specs.Given.{AreLogs, HasMade, SameGiven, TwoThreadsAreHeld, gave, gave_call, gave_together, log_at}
+use Rattle.warm_shard_machine.specs.Laws.{Log}
 use Rattle.warm_concurrent.specs.Laws.{OverCalls}
 use Rattle.warm_concurrent.specs.Opening.{AreClosed, AreFirst, AreHalved, PassesAreJoined, AreSplit}
 use Rattle.warm_concurrent.specs.Rights.{Come, HasWholeRight, Moves, Threads, ThreadsMove}
@@ -23,7 +24,7 @@ use Rattle.warm_concurrent.specs.Whole.{AbsorbsFirst}
 use Rattle.warm_concurrent.proofs.Headline.{shared_is_of_given, turns_long}
 use Rattle.warm_concurrent.proofs.LawsHold.{over_calls}
 use Rattle.warm_concurrent.proofs.Rights.{alone_has_all, calls_keep, closed_gives_back}
-use Rattle.warm_concurrent.proofs.Stopping.{threads_give}
+use Rattle.warm_concurrent.proofs.CallsGivenLemmas.{threads_give}
 use Rattle.warm_concurrent.proofs.Sets.{Includes, includes_both, includes_left, includes_right, includes_self, includes_trans, includes_unions, same_history, same_includes}
 
 -- a log gives what the calls of one number in it give

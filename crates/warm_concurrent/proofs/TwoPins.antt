@@ -1,7 +1,7 @@
 -- Two threads that unpin what the other pinned, and one that closes: no page is pinned.
 use Rattle.std.proofs.Common.{◌≡◌, ℕ, List, [], ◌∷◌, length, refl, ◌∙◌, arith}
-use Rattle.warm_concurrent.specs.declared.call.ShardCall.TheVariants.{Pin, Unpin}
-use Rattle.warm_concurrent.specs.declared.call.ShardReply.TheVariants.{Done, Pinned}
+use Rattle.warm_shard_machine.specs.declared.calls.ShardCall.TheVariants.{Pin, Unpin}
+use Rattle.warm_shard_machine.specs.declared.calls.ShardReply.TheVariants.{Done, Pinned}
 use Rattle.warm_concurrent.specs.Attached.{AttachedView, ShardPass}
 use Rattle.warm_concurrent.specs.Pins.{IsCounted, TwoThreadsUnpin}
 use Rattle.warm_concurrent.specs.Rights.{Come, HasWholeRight, Threads}

@@ -7,12 +7,12 @@ use Rattle.warm_history.specs.Histories.{HistoryView, StandsFor, references_of}
 use Rattle.warm_rank.specs.Laws.{IsFarthest}
 use Rattle.warm_rank.specs.Ranking.{IsVictim}
 use Rattle.warm_rank.proofs.VictimLemmas.{victim_is_farthest}
+use Rattle.warm_frame_table.specs.Frames.{FrameState}
+use Rattle.warm_frame_table.proofs.ListLemmas.{at_set}
 use Rattle.warm_pool.specs.declared.fault.PoolFault.TheVariants.{SizeDiffers}
 use Rattle.warm_pool.specs.declared.slot.Slot.{Slot}
-use Rattle.warm_pool.specs.Frames.{FrameState}
 use Rattle.warm_pool.specs.View.{FrameView, PoolView, frame_at, frame_view, unfixed_pages, view_of}
 use Rattle.warm_pool.specs.Zeroing.{PinnedZeroed, PutsZeros}
-use Rattle.warm_pool.proofs.Slots.{at_set}
 use Rattle.warm_machine.specs.Runs.{Runs, operation}
 use Rattle.warm_gossip.specs.declared.call.Call.{Call}
 use Rattle.warm_gossip.specs.declared.call.Call.TheVariants as node_call
@@ -23,16 +23,17 @@ use Rattle.warm_gossip.specs.Clauses.{Goes}
 use Rattle.warm_gossip.specs.State.{NodeState, NodeView, node_view}
 use Rattle.warm_gossip.specs.Victims.{IsEvicted}
 use Rattle.warm_gossip.proofs.VictimLemmas.{KeepsPages, fixes_change, no_frame, victims_are_farthest}
-use Rattle.warm_concurrent.specs.declared.call.ShardCall.{ShardCall}
-use Rattle.warm_concurrent.specs.declared.call.ShardCall.TheVariants.{Change, Look, Pin, PinFilled, PinZeroed, Victim, WarmStep}
-use Rattle.warm_concurrent.specs.declared.call.ShardReply.{ShardReply}
-use Rattle.warm_concurrent.specs.declared.call.ShardReply.TheVariants.{Changed, Foreign, Looked, Page, Pinned, Refused}
+use Rattle.warm_shard_machine.specs.declared.calls.ShardCall.{ShardCall}
+use Rattle.warm_shard_machine.specs.declared.calls.ShardCall.TheVariants.{Change, Look, Pin, PinFilled, PinZeroed, Victim, WarmStep}
+use Rattle.warm_shard_machine.specs.declared.calls.ShardReply.{ShardReply}
+use Rattle.warm_shard_machine.specs.declared.calls.ShardReply.TheVariants.{Changed, Foreign, Looked, Page, Pinned, Refused}
 use Rattle.warm_concurrent.specs.Attached.{ShardPass, known_of}
 use Rattle.warm_concurrent.specs.Clauses.{AnsweredByShard}
-use Rattle.warm_concurrent.specs.Given.{AnswersAfter, FillsFrame, Log, SharedVictims, VictimsOver, gave}
-use Rattle.warm_concurrent.specs.ShardSteps.{CallGoes, CallStep, ShardState, ShardStep, node_reply_of}
+use Rattle.warm_concurrent.specs.Given.{AnswersAfter, FillsFrame, SharedVictims, VictimsOver, gave}
+use Rattle.warm_shard_machine.specs.Laws.{Log}
+use Rattle.warm_shard_machine.specs.ShardSteps.{CallGoes, CallStep, ShardState, ShardStep, node_reply_of}
 use Rattle.warm_concurrent.proofs.Headline.{run_gave}
-use Rattle.warm_concurrent.proofs.Steps.{last_of}
+use Rattle.warm_shard_machine.proofs.ShardStepLemmas.{last_of}
 
 abbrev pages_of : NodeState → PoolView
 pages_of n = view_of n.pool

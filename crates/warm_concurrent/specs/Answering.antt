@@ -9,14 +9,14 @@ use Rattle.warm_frames.specs.declared.message.Message.{Message}
 use Rattle.warm_frames.specs.declared.message.Message.TheVariants.{Entries, Digest, Want}
 use Rattle.warm_gossip.specs.declared.fault.NodeFault.TheVariants.{Memory}
 use Rattle.warm_concurrent.specs.declared.answering.Offered.{Offered}
-use Rattle.warm_concurrent.specs.declared.call.ShardCall.TheVariants.{Answer, Offer}
-use Rattle.warm_concurrent.specs.declared.call.ShardReply.{ShardReply}
-use Rattle.warm_concurrent.specs.declared.call.ShardReply.TheVariants.{Answers, Sent}
+use Rattle.warm_shard_machine.specs.declared.calls.ShardCall.TheVariants.{Answer, Offer}
+use Rattle.warm_shard_machine.specs.declared.calls.ShardReply.{ShardReply}
+use Rattle.warm_shard_machine.specs.declared.calls.ShardReply.TheVariants.{Answers, Sent}
 use Rattle.warm_concurrent.specs.declared.fault.SharedFault.{SharedFault}
 use Rattle.warm_concurrent.specs.declared.fault.SharedFault.TheVariants.{Node}
 use Rattle.warm_concurrent.specs.Attached.{ShardPass}
 use Rattle.warm_concurrent.specs.Clauses.{CallFails, Got}
-use Rattle.warm_concurrent.specs.ShardSteps.{shard_of_bucket}
+use Rattle.warm_shard_machine.specs.ShardSteps.{shard_of_bucket}
 use Rattle.warm_concurrent.specs.Whole.{First}
 
 -- Each shard below k gave the item at its place, and no other turn was entered.

@@ -4,9 +4,9 @@ use Rattle.atomic_table.specs.Seated.{TableId}
 use Rattle.warm_turn.specs.CallHistories.{PassView, TurnView, nobody, turn_at}
 use Rattle.warm_turn.specs.declared.table.View.{View}
 use Rattle.warm_shards.specs.Shards.{IsShardCount}
-use Rattle.warm_concurrent.specs.declared.call.ShardCall.{ShardCall}
-use Rattle.warm_concurrent.specs.declared.call.ShardReply.{ShardReply}
-use Rattle.warm_concurrent.specs.ShardSteps.{ShardState, no_state}
+use Rattle.warm_shard_machine.specs.declared.calls.ShardCall.{ShardCall}
+use Rattle.warm_shard_machine.specs.declared.calls.ShardReply.{ShardReply}
+use Rattle.warm_shard_machine.specs.ShardSteps.{ShardState, no_state}
 
 -- the turn of a shard
 abbrev pub ShardTurn : Type 0

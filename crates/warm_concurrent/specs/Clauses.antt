@@ -1,19 +1,14 @@
 -- Definitions for the contracts of shared shards.
-use Rattle.std.specs.Prelude.{◌≡◌, ℕ, ◌<◌, ◌≤◌, List, length}
-use Rattle.std.specs.Prelude.{Result, Ok, Err}
+use Rattle.std.specs.Prelude.{◌≡◌, ℕ, ◌<◌, ◌≤◌, List, length, Result, Ok, Err}
 use Rattle.warm_turn.specs.CallHistories.{Called, marked}
-use Rattle.warm_gossip.specs.State.{NodeState}
 use Rattle.warm_gossip.specs.declared.fault.NodeFault.TheVariants.{StaleSlot}
-use Rattle.warm_concurrent.specs.declared.call.ShardCall.{ShardCall}
-use Rattle.warm_concurrent.specs.declared.call.ShardCall.TheVariants.{Absorb, TakeIn, Write}
-use Rattle.warm_concurrent.specs.declared.call.ShardCall.TheVariants.{WritePages, WriteBack}
-use Rattle.warm_concurrent.specs.declared.call.ShardCall.TheVariants.{FlushDevice, ForgetPages}
-use Rattle.warm_concurrent.specs.declared.call.ShardReply.{ShardReply}
-use Rattle.warm_concurrent.specs.declared.call.ShardReply.TheVariants.{Done, Refused}
+use Rattle.warm_shard_machine.specs.declared.calls.ShardCall.{ShardCall}
+use Rattle.warm_shard_machine.specs.declared.calls.ShardReply.{ShardReply}
+use Rattle.warm_shard_machine.specs.declared.calls.ShardReply.TheVariants.{Done, Refused}
 use Rattle.warm_concurrent.specs.declared.fault.SharedFault.{SharedFault}
 use Rattle.warm_concurrent.specs.declared.fault.SharedFault.TheVariants.{Node, TurnsSpent}
 use Rattle.warm_concurrent.specs.Attached.{KeepsOtherPasses, Known, ShardPass, known_of}
-use Rattle.warm_concurrent.specs.ShardSteps.{IsOwn, NodeGoes, ShardStep, asked_of}
+use Rattle.warm_shard_machine.specs.ShardSteps.{ShardStep}
 
 -- Calls of one shard
 
@@ -53,19 +48,3 @@ SlotCallEnds old i call reply result new =
 -- the reply to a call without a result
 abbrev pub shard_done : {A : Type 0} → A → ShardReply
 shard_done given = Done
-
--- a node could give this reply to the call, if all its pages are of this shard
-abbrev pub MayAnswer : ℕ → ℕ → ShardCall → ShardReply → Type 0
-MayAnswer count i call reply = IsOwn count i call
-    → (x : NodeState) × (y : NodeState) × NodeGoes x (asked_of call) reply y
-
--- a call of own pages that has no result: a node answers it `Done`, or refuses it
-abbrev pub IsDoneCall : ℕ → ℕ → ShardCall → Type 0
-IsDoneCall count i (Absorb batch) = IsOwn count i (Absorb batch)
-IsDoneCall count i (TakeIn horizon entries) = IsOwn count i (TakeIn horizon entries)
-IsDoneCall count i (Write slot at bytes) = Unit {0}
-IsDoneCall count i WritePages = Unit {0}
-IsDoneCall count i WriteBack = Unit {0}
-IsDoneCall count i (FlushDevice dev) = Unit {0}
-IsDoneCall count i (ForgetPages dev from) = Unit {0}
-IsDoneCall count i call = ⊥

@@ -1,15 +1,18 @@
--- A copy of the history of all shards, shard by shard, and the hottest pages of it.
+-- A copy of the history of all shards, shard by shard: the hottest pages of it, and what it answers
+-- to a message.
 use Rattle.std.specs.Prelude.{◌≡◌, ◌⊎◌, ℕ, ◌<◌, ◌≤◌, List, [], ◌∷◌, length}
 use Rattle.warm_stamps.specs.declared.PageId.{PageId}
 use Rattle.warm_history.specs.Histories.{HistoryView, history_of_entries, join, references_of}
 use Rattle.warm_rank.specs.Ranking.{hottest_pages}
+use Rattle.warm_frames.specs.declared.message.Message.{Message}
+use Rattle.warm_peer.specs.Answers.{IsAnswer}
 use Rattle.warm_gossip.specs.declared.fault.NodeFault.TheVariants.{Memory}
-use Rattle.warm_concurrent.specs.declared.call.ShardCall.TheVariants.{CopyHistory}
-use Rattle.warm_concurrent.specs.declared.call.ShardReply.TheVariants.{Copied}
+use Rattle.warm_shard_machine.specs.declared.calls.ShardCall.TheVariants.{CopyHistory}
+use Rattle.warm_shard_machine.specs.declared.calls.ShardReply.TheVariants.{Copied}
 use Rattle.warm_concurrent.specs.declared.fault.SharedFault.{SharedFault}
 use Rattle.warm_concurrent.specs.declared.fault.SharedFault.TheVariants.{Node}
 use Rattle.warm_concurrent.specs.Answering.{FirstGave}
-use Rattle.warm_concurrent.specs.Attached.{ShardPass}
+use Rattle.warm_concurrent.specs.Attached.{OpenedAs, ShardPass, ShardTurn}
 use Rattle.warm_concurrent.specs.Clauses.{CallFails, Got}
 
 -- the history of no references
@@ -50,3 +53,10 @@ CopyFails k why old new = (copies : List HistoryView) × (mid : List ShardPass)
 abbrev pub ListsAll : ℕ → List PageId → List ShardPass → List ShardPass → Type 0
 ListsAll n pages old new = (copy : HistoryView) × CopiesAll copy old new
     × (pages ≡ hottest_pages (references_of copy) n)
+
+-- each shard gave a copy of its history in one turn, and a replica that has their join, of the
+-- number with which the shards opened, answers the message with these messages
+abbrev pub AnswersByCopy : List ShardTurn → Message → List Message → List ShardPass
+    → List ShardPass → Type 0
+AnswersByCopy turns message answers old new = (id : ℕ) × OpenedAs id turns
+    × (copy : HistoryView) × CopiesAll copy old new × IsAnswer id copy message answers

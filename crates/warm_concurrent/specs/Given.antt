@@ -13,7 +13,6 @@ use Rattle.warm_history.specs.Histories.{references_of}
 use Rattle.warm_rank.specs.Laws.{IsFarthest}
 use Rattle.warm_frames.specs.declared.message.Message.{Message}
 use Rattle.warm_pool.specs.View.{unfixed_pages, view_of}
-use Rattle.warm_machine.specs.declared.operation.Operation.{Operation}
 use Rattle.warm_turn.specs.declared.fault.Busy.{Busy}
 use Rattle.warm_turn.specs.declared.table.EndedPass.{EndedPass}
 use Rattle.warm_machine.specs.Runs.{Runs, operation}
@@ -24,12 +23,13 @@ use Rattle.warm_gossip.specs.State.{NodeState}
 use Rattle.warm_gossip.specs.Victims.{IsEvicted}
 use Rattle.warm_shards.specs.Shards.{AreShards, IsShardCount, of_first_shards, shard_at, whole}
 use Rattle.warm_concurrent.specs.declared.answering.Offered.{Offered}
-use Rattle.warm_concurrent.specs.declared.call.ShardCall.{ShardCall}
-use Rattle.warm_concurrent.specs.declared.call.ShardCall.TheVariants.{Absorb, Raise, Pin, Look, Change}
-use Rattle.warm_concurrent.specs.declared.call.ShardCall.TheVariants.{PinFilled, PinZeroed, TakeIn}
-use Rattle.warm_concurrent.specs.declared.call.ShardCall.TheVariants.{Victim, WarmStep}
-use Rattle.warm_concurrent.specs.declared.call.ShardReply.{ShardReply}
-use Rattle.warm_concurrent.specs.declared.call.ShardReply.TheVariants.{Done, Kept, Page}
+use Rattle.warm_shard_machine.specs.declared.calls.ShardCall.{ShardCall}
+use Rattle.warm_shard_machine.specs.declared.calls.ShardCall.TheVariants.{Absorb, Raise, Pin, Look}
+use Rattle.warm_shard_machine.specs.declared.calls.ShardCall.TheVariants.{Change, PinFilled}
+use Rattle.warm_shard_machine.specs.declared.calls.ShardCall.TheVariants.{PinZeroed, TakeIn, Victim}
+use Rattle.warm_shard_machine.specs.declared.calls.ShardCall.TheVariants.{WarmStep}
+use Rattle.warm_shard_machine.specs.declared.calls.ShardReply.{ShardReply}
+use Rattle.warm_shard_machine.specs.declared.calls.ShardReply.TheVariants.{Done, Kept, Page}
 use Rattle.warm_concurrent.specs.declared.fault.SharedFault.{SharedFault}
 use Rattle.warm_concurrent.specs.declared.gossip.NotReceived.{NotReceived}
 use Rattle.warm_concurrent.specs.declared.gossip.NotReceived.TheVariants.{Raising, Taking}
@@ -41,7 +41,8 @@ use Rattle.warm_concurrent.specs.Gossip.{ReceiveStops, ShardsReceive}
 use Rattle.warm_concurrent.specs.Laws.{all_of}
 use Rattle.warm_concurrent.specs.Opening.{AreClosed, AreFirst, AreHalved, PassesAreJoined, AreSplit}
 use Rattle.warm_concurrent.specs.Opening.{openings, shards_over}
-use Rattle.warm_concurrent.specs.ShardSteps.{ShardState, ShardStep}
+use Rattle.warm_shard_machine.specs.Laws.{Log}
+use Rattle.warm_shard_machine.specs.ShardSteps.{ShardState, ShardStep}
 use Rattle.warm_concurrent.specs.Whole.{AbsorbFails, AbsorbsFirst, DoneFirst, JoinFails, JoinsFirst}
 use Rattle.warm_concurrent.specs.Whole.{RaiseFails, RaisesFirst}
 
@@ -58,10 +59,6 @@ abbrev pub only_horizon : ℕ → ReferenceSet
 only_horizon time = record { horizon = time; given = [] }
 
 -- What calls gave
-
--- calls of a shard, each with its reply, in their order
-abbrev pub Log : Type 0
-Log = List (Operation ShardCall ShardReply)
 
 -- the list of the shard of this number
 abbrev pub log_at : List Log → ℕ → Log

@@ -1,5 +1,3 @@
-pub mod ToldDevices
-pub mod ShardSteps
 pub mod Attached
 pub mod Clauses
 pub mod Faults
@@ -11,9 +9,8 @@ pub mod Given
 pub mod Answering
 pub mod Raising
 pub mod Copying
-pub mod Asking
 pub mod Retiring
 pub mod Filling
+pub mod Looking
 pub mod Gossip
-pub mod Visits
 pub mod Pins

@@ -1,6 +1,6 @@
 -- Sharing shards, attaching threads to them, and closing them.
-use Rattle.std.specs.Prelude.{◌≡◌, ◌≢◌, ℕ, suc, ◌<◌, List, [], ◌∷◌, length, map}
-use Rattle.std.specs.Prelude.{Result, Ok, Err, slice_index_or}
+use Rattle.std.specs.Prelude.{◌≡◌, ◌≢◌, ℕ, suc, ◌<◌, List, [], ◌∷◌, length, map, Result, Ok, Err}
+use Rattle.std.specs.Prelude.{slice_index_or}
 use Rattle.warm_turn.specs.declared.fault.Busy.{Busy}
 use Rattle.warm_turn.specs.CallHistories.{IsLast, Joined, calls_by, first_pass, halved, new_pass}
 use Rattle.warm_turn.specs.Shares.{IsWhole}
@@ -12,7 +12,7 @@ use Rattle.warm_concurrent.specs.declared.fault.SharedFault.{SharedFault}
 use Rattle.warm_concurrent.specs.declared.fault.SharedFault.TheVariants.{Node, PinsHeld}
 use Rattle.warm_concurrent.specs.Attached.{Known, ShardPass, ShardTurn, known_of, shard_pass}
 use Rattle.warm_concurrent.specs.Attached.{shard_turn}
-use Rattle.warm_concurrent.specs.ShardSteps.{ShardState, ShardStep, no_state, shard_over}
+use Rattle.warm_shard_machine.specs.ShardSteps.{ShardState, ShardStep, no_state, shard_over}
 
 -- the shards over these nodes, numbered from i on, of this many
 abbrev pub shards_from : ℕ → ℕ → List NodeState → List ShardState

@@ -27,9 +27,8 @@ use Rattle.std.specs.Prelude.{◌≡◌, ℕ, ◌+◌, ◌<◌, List, ◌++◌, 
 use Rattle.std.specs.List.{flat_map, sum_by}
 use Rattle.warm_turn.specs.declared.fault.Busy.{Busy}
 use Rattle.warm_pool.specs.State.{IsPool}
-use Rattle.warm_pool.specs.View.{FrameView, IsUnfixed, view_of}
+use Rattle.warm_pool.specs.View.{IsUnfixed, view_of}
 use Rattle.warm_frames.specs.declared.message.Message.{Message}
-use Rattle.warm_machine.specs.Runs.{Runs}
 use Rattle.warm_pool.specs.declared.slot.Slot.{Slot}
 use Rattle.warm_stamps.specs.declared.PageId.{PageId}
 use Rattle.warm_stamps.specs.declared.Reference.{Reference}
@@ -37,32 +36,23 @@ use Rattle.warm_history.specs.Histories.{HistoryView}
 use Rattle.warm_gossip.specs.State.{NodeState}
 use Rattle.warm_shards.specs.Shards.{shard_at}
 use Rattle.warm_concurrent.specs.declared.answering.Offered.{Offered}
-use Rattle.warm_concurrent.specs.declared.call.ShardCall.{ShardCall}
-use Rattle.warm_concurrent.specs.declared.call.ShardCall.TheVariants.{Pin, PinFilled, PinZeroed}
-use Rattle.warm_concurrent.specs.declared.call.ShardCall.TheVariants.{Unpin}
-use Rattle.warm_concurrent.specs.declared.call.ShardReply.{ShardReply}
-use Rattle.warm_concurrent.specs.declared.call.ShardReply.TheVariants.{Done, Pinned}
+use Rattle.warm_shard_machine.specs.declared.calls.ShardCall.{ShardCall}
+use Rattle.warm_shard_machine.specs.declared.calls.ShardCall.TheVariants.{Pin, Unpin}
+use Rattle.warm_shard_machine.specs.declared.calls.ShardReply.{ShardReply}
+use Rattle.warm_shard_machine.specs.declared.calls.ShardReply.TheVariants.{Done, Pinned}
 use Rattle.warm_concurrent.specs.declared.fault.SharedFault.{SharedFault}
 use Rattle.warm_concurrent.specs.Answering.{AnswersFirst, OffersFirst}
 use Rattle.warm_concurrent.specs.Attached.{AreOf, AttachedView, Known, ShardPass, ShardTurn}
 use Rattle.warm_concurrent.specs.Clauses.{AnsweredByShard, CallFails}
 use Rattle.warm_concurrent.specs.Copying.{CopiesFirst}
-use Rattle.warm_concurrent.specs.Given.{Log}
-use Rattle.warm_concurrent.specs.Opening.{AreClosed, AreFirst, AreHalved, AreSplit}
-use Rattle.warm_concurrent.specs.Opening.{PassesAreJoined, openings, shards_over}
+use Rattle.warm_shard_machine.specs.Laws.{Log}
+use Rattle.warm_concurrent.specs.Opening.{AreClosed, AreFirst, AreHalved, AreSplit, PassesAreJoined}
+use Rattle.warm_concurrent.specs.Opening.{openings, shards_over}
 use Rattle.warm_concurrent.specs.Rights.{HasWholeRight}
-use Rattle.warm_concurrent.specs.ShardSteps.{ShardState, ShardStep}
+use Rattle.warm_shard_machine.specs.Pins.{LeadsTo, pin_by, pins_by, pool_pins, unpin_by, unpins_by}
 use Rattle.warm_concurrent.specs.Whole.{AbsorbsFirst, DoneFirst, RaisesFirst, TakesFirst}
 
--- Pools
-
--- the pins of all these frames
-abbrev pub pins_in : List FrameView → ℕ
-pins_in frames = sum_by (λ f. f.fixes) frames
-
--- the pins of a node's pool
-abbrev pub pool_pins : NodeState → ℕ
-pool_pins node = pins_in (view_of node.pool).frames
+-- Nodes
 
 -- the pins of the pools of these nodes, together
 abbrev pub all_pins : List NodeState → ℕ
@@ -71,41 +61,6 @@ all_pins nodes = sum_by pool_pins nodes
 -- no page of any of these nodes is pinned
 abbrev pub NoneIsPinned : List NodeState → Type 0
 NoneIsPinned nodes = (i : ℕ) → i < length nodes → IsUnfixed (view_of (shard_at nodes i).pool)
-
--- Calls
-
--- how many pins a call with this reply gave
-abbrev pub pin_by : ShardCall → ShardReply → ℕ
-pin_by (Pin page) (Pinned slot) = 1
-pin_by (PinZeroed page) (Pinned slot) = 1
-pin_by (PinFilled page bytes) (Pinned slot) = 1
-pin_by call reply = 0
-
--- how many pins a call with this reply removed
-abbrev pub unpin_by : ShardCall → ShardReply → ℕ
-unpin_by (Unpin slot) Done = 1
-unpin_by call reply = 0
-
--- how many pins these calls gave
-abbrev pub pins_by : Log → ℕ
-pins_by calls = sum_by (λ e. pin_by e.call e.reply) calls
-
--- how many pins these calls removed
-abbrev pub unpins_by : Log → ℕ
-unpins_by calls = sum_by (λ e. unpin_by e.call e.reply) calls
-
--- these calls lead from so many pins to so many
-abbrev pub LeadsTo : ℕ → Log → ℕ → Type 0
-LeadsTo before calls after = after + unpins_by calls ≡ before + pins_by calls
-
--- One shard
-
--- the pins of a shard's pool are those with which it opened and those that its calls gave, less
--- those that they removed
-abbrev pub PinsAreGiven : Type 0
-PinsAreGiven = (opening last : ShardState) (calls : Log) → IsPool opening.node.pool
-    → Runs ShardStep opening calls last
-    → LeadsTo (pool_pins opening.node) calls (pool_pins last.node)
 
 -- One thread
 

@@ -1,7 +1,7 @@
 -- The horizon that shards have together, once each forgot all stamps before a time.
 use Rattle.std.specs.Prelude.{◌≡◌, ℕ, List, [], ◌∷◌, length, max}
-use Rattle.warm_concurrent.specs.declared.call.ShardCall.TheVariants.{Raise}
-use Rattle.warm_concurrent.specs.declared.call.ShardReply.TheVariants.{Kept}
+use Rattle.warm_shard_machine.specs.declared.calls.ShardCall.TheVariants.{Raise}
+use Rattle.warm_shard_machine.specs.declared.calls.ShardReply.TheVariants.{Kept}
 use Rattle.warm_concurrent.specs.Answering.{FirstGave}
 use Rattle.warm_concurrent.specs.Attached.{ShardPass}
 use Rattle.warm_concurrent.specs.Clauses.{Got}

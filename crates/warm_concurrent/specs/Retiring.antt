@@ -1,49 +1,26 @@
 -- Replacing a device of a shard with another: what a visitor says of it, and what a thread has seen.
-use Rattle.std.specs.Prelude.{◌≡◌, ℕ, List, Result, Ok, Err}
+use Rattle.std.specs.Prelude.{ℕ, List}
 use Rattle.boxcar.specs.declared.tag.Tag.{Tag}
 use Rattle.warm_devices.specs.Device.{DeviceState}
-use Rattle.warm_pool.specs.declared.fault.PoolFault.{PoolFault}
 use Rattle.warm_gossip.specs.declared.fault.NodeFault.TheVariants.{Pool}
-use Rattle.warm_concurrent.specs.declared.call.ShardCall.{ShardCall}
-use Rattle.warm_concurrent.specs.declared.call.ShardCall.TheVariants.{Retire}
-use Rattle.warm_concurrent.specs.declared.call.ShardReply.{ShardReply}
-use Rattle.warm_concurrent.specs.declared.call.ShardReply.TheVariants.{Done, Refused, Replaced}
+use Rattle.warm_shard_machine.specs.declared.calls.ShardCall.TheVariants.{Retire}
+use Rattle.warm_shard_machine.specs.declared.calls.ShardReply.TheVariants.{Refused, Replaced}
 use Rattle.warm_concurrent.specs.declared.fault.SharedFault.{SharedFault}
 use Rattle.warm_concurrent.specs.declared.fault.SharedFault.TheVariants.{Node, TurnsSpent}
 use Rattle.warm_concurrent.specs.Attached.{ShardPass}
 use Rattle.warm_concurrent.specs.Clauses.{AnsweredByShard, Spent}
-use Rattle.warm_concurrent.specs.ToldDevices.{IsTold}
-
--- How a replacement went, as the call and the reply say: the device was replaced, or the pool
--- refused it with the fault of this error
-abbrev pub RetiresAs : {E : Type 0} → (E → PoolFault) → ℕ → DeviceState → Result Unit E → ShardCall
-    → ShardReply → Type 0
-RetiresAs fault dev device (Ok done) call reply = (told : Tag) × IsTold told device
-    × (call ≡ Retire dev told) × (reply ≡ Done)
-RetiresAs fault dev device (Err e) call reply = (told : Tag) × IsTold told device
-    × (call ≡ Retire dev told) × (reply ≡ Refused (Pool (fault e)))
-
--- How a replacement went, as the call and the reply say: the old device is given back, in this
--- state, or the pool refused it with the fault of this error
-abbrev pub ReplacesAs : {D E : Type 0} → (D → DeviceState) → (E → PoolFault) → ℕ → DeviceState
-    → Result D E → ShardCall → ShardReply → Type 0
-ReplacesAs state fault dev device (Ok was) call reply = (told : Tag) × (given : Tag)
-    × IsTold told device × IsTold given (state was)
-    × (call ≡ Retire dev told) × (reply ≡ Replaced given)
-ReplacesAs state fault dev device (Err e) call reply = (told : Tag) × IsTold told device
-    × (call ≡ Retire dev told) × (reply ≡ Refused (Pool (fault e)))
-
--- the shard of this number replaced its device with one of this state, in one turn, and no other was
--- entered
-abbrev pub RetiresAt : List ShardPass → ℕ → ℕ → DeviceState → List ShardPass → Type 0
-RetiresAt old i dev device new = (told : Tag) × IsTold told device
-    × AnsweredByShard old i (Retire dev told) Done new
+use Rattle.warm_shard_machine.specs.ToldDevices.{IsTold}
 
 -- the shard of this number replaced its device with one of this state, and gave the old one back,
 -- in its state, in one turn; no other was entered
 abbrev pub ReplacesAt : List ShardPass → ℕ → ℕ → DeviceState → DeviceState → List ShardPass → Type 0
 ReplacesAt old i dev device was new = (told : Tag) × (given : Tag) × IsTold told device
     × IsTold given was × AnsweredByShard old i (Retire dev told) (Replaced given) new
+
+-- the shard of this number replaced its device with one of this state, in one turn, and gave the old
+-- one back; no other was entered
+abbrev pub RetiresAt : List ShardPass → ℕ → ℕ → DeviceState → List ShardPass → Type 0
+RetiresAt old i dev device new = (was : DeviceState) × ReplacesAt old i dev device was new
 
 -- the shard of this number refused to replace its device, with a fault of its pool; or no ticket
 -- was left

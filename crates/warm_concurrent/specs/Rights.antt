@@ -5,8 +5,7 @@ use Rattle.warm_turn.specs.Shares.{IsWhole}
 use Rattle.warm_gossip.specs.State.{NodeState}
 use Rattle.warm_concurrent.specs.Attached.{ShardPass, ShardTurn, known_of}
 use Rattle.warm_concurrent.specs.Laws.{OverCalls}
-use Rattle.warm_concurrent.specs.Opening.{AreClosed, AreFirst, AreHalved, AreSplit}
-use Rattle.warm_concurrent.specs.Opening.{PassesAreJoined}
+use Rattle.warm_concurrent.specs.Opening.{AreClosed, AreFirst, AreHalved, AreSplit, PassesAreJoined}
 
 -- a thread has as much of the right to close each shard as it had
 pub record KeepsRight (old new : List ShardPass) : Type 0 where

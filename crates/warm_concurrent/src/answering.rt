@@ -5,20 +5,19 @@ ghost use Rattle.warm_concurrent.specs.Answering.{AnswerFails, AnswersAll, Gathe
 ghost use Rattle.warm_concurrent.specs.Answering.{IsPartOf, OfferFails, offer_message, offer_reply};
 ghost use Rattle.warm_concurrent.specs.Attached.{AreOf, AreTurns};
 ghost use Rattle.warm_concurrent.specs.Clauses.{CallEnds};
-ghost use Rattle.warm_concurrent.specs.ShardSteps.{IsOwn, shard_of_bucket};
-ghost use Rattle.warm_concurrent.specs.declared.call.ShardCall.TheVariants.{Answer, Offer};
-ghost use Rattle.warm_concurrent.specs.declared.call.ShardReply.TheVariants.{Answers, Sent};
+ghost use Rattle.warm_shard_machine.specs.ShardSteps.{IsOwn, shard_of_bucket};
+ghost use Rattle.warm_shard_machine.specs.declared.calls.ShardCall.TheVariants.{Answer, Offer};
+ghost use Rattle.warm_shard_machine.specs.declared.calls.ShardReply.TheVariants.{Answers, Sent};
 
-use crate::call::{ShardCall, ShardReply};
 use crate::fault::SharedFault;
 use crate::history_calls::Stopped;
-use crate::shard::Shard;
 use crate::shared::call_shard;
 use std::alloc::Global;
 use std::sync::Wait;
 use warm_devices::PageDevice;
 use warm_frames::{BoxedMessage, DIGEST_SIZE, DigestTable, Message, MessageList};
 use warm_gossip::NodeFault;
+use warm_shard_machine::{Shard, ShardCall, ShardReply};
 use warm_shards::fill_digests;
 use warm_stamps::{BUCKETS, Bucket, BucketSet, ReplicaId};
 use warm_turn::{Pass, Turn};

@@ -1,17 +1,16 @@
 //! Threads come and go, and the shards are closed.
-ghost use Rattle.std.specs.Prelude.{◌≡◌, ◌≢◌, ◌≤◌, [], length, IfErr, IfOk, OnOk};
-ghost use Rattle.std.specs.Prelude.{vec_capacity};
+ghost use Rattle.std.specs.Prelude.{◌≡◌, ◌≢◌, ◌≤◌, [], length, IfErr, IfOk, OnOk, vec_capacity};
 ghost use Rattle.warm_concurrent.specs.Attached.{AreOf};
 ghost use Rattle.warm_concurrent.specs.Opening.{AreClosed, AreHalved, AreSplit, ClosesShard};
 ghost use Rattle.warm_concurrent.specs.Opening.{IsCloseRefused, PassesAreJoined};
 ghost use Rattle.warm_concurrent.specs.Pins.{ClosesUnpinned};
 
 use crate::fault::SharedFault;
-use crate::shard::Shard;
 use crate::shared::{Attached, SharedShards};
 use std::alloc::{AllocError, Global};
 use warm_devices::PageDevice;
 use warm_gossip::{Node, NodeFault};
+use warm_shard_machine::Shard;
 use warm_turn::{Busy, Pass, Turn};
 
 /// A thread that was not detached, since it counts pins: refusal 21, `PinsHeld`. Nothing has

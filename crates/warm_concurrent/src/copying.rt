@@ -1,63 +1,30 @@
-//! A copy of the history of all shards, shard by shard, and a list of its hottest pages.
+//! A copy of the history of all shards, shard by shard: a list of its hottest pages, and what it
+//! answers to a message.
 ghost use Rattle.std.specs.Prelude.{◌≡◌, ◌<◌, length, IfErr, IfOk};
 ghost use Rattle.warm_history.specs.Histories.{references_of};
+ghost use Rattle.warm_peer.specs.Answers.{IsAnswer};
 ghost use Rattle.warm_rank.specs.Ranking.{hottest_pages};
 ghost use Rattle.warm_concurrent.specs.Attached.{AreOf, AreTurns};
 ghost use Rattle.warm_concurrent.specs.Clauses.{CallEnds};
-ghost use Rattle.warm_concurrent.specs.Copying.{CopiesAll, CopyFails, ListsAll};
-ghost use Rattle.warm_concurrent.specs.declared.call.ShardCall.TheVariants.{CopyHistory};
-ghost use Rattle.warm_concurrent.specs.declared.call.ShardReply.TheVariants.{Copied};
+ghost use Rattle.warm_concurrent.specs.Copying.{AnswersByCopy, CopiesAll, CopyFails, ListsAll};
+ghost use Rattle.warm_shard_machine.specs.declared.calls.ShardCall.TheVariants.{CopyHistory};
+ghost use Rattle.warm_shard_machine.specs.declared.calls.ShardReply.TheVariants.{Copied};
 
-use crate::call::{ShardCall, ShardReply};
 use crate::fault::SharedFault;
 use crate::history_calls::Stopped;
-use crate::shard::Shard;
 use crate::shared::{Attached, SharedShards, call_shard};
 use std::alloc::{AllocError, Global};
-use std::marker::Model;
 use std::sync::Wait;
 use warm_devices::PageDevice;
+use warm_frames::{Message, MessageList};
 use warm_gossip::NodeFault;
 use warm_history::History;
 use warm_history::laws::prove_is_history;
+use warm_peer::Peer;
 use warm_rank::warm_list;
-use warm_stamps::PageList;
+use warm_shard_machine::{BoxedHistory, Shard, ShardCall, ShardReply};
+use warm_stamps::{PageList, ReplicaId};
 use warm_turn::{Pass, Turn};
-
-/// A history in a heap box, so that no reply has the room for a history in it. Contracts see the
-/// history.
-#[derive(Drop)]
-pub struct BoxedHistory {
-    history: Box<History>,
-}
-
-impl Model for BoxedHistory {
-    ghost use Rattle.warm_history.specs.Histories.{HistoryView};
-
-    ghost Value = { HistoryView };
-
-    ghost view = { λ boxed. boxed.history.value };
-}
-
-impl BoxedHistory {
-    /// A copy of the history, in a box.
-    ///
-    /// `AllocError` occurs only where an allocation fails.
-    pub fn copy_of(alloc: Global, history: &History) -> Result<BoxedHistory, AllocError>
-        ensures { IfOk result (λ boxed. boxed ≡ history.now) }
-    {
-        let copy = history.copy()?;
-        let history = Box::new(alloc, copy)?;
-        Ok(BoxedHistory { history })
-    }
-
-    /// Borrows the history. Allocation-free.
-    pub fn as_history(&self) -> &History
-        ensures { result.now ≡ self.now }
-    {
-        &self.history
-    }
-}
 
 // Has one shard copy its history.
 fn copy_in<D: PageDevice + Send, R: Wait>(
@@ -80,7 +47,7 @@ fn copy_in<D: PageDevice + Send, R: Wait>(
 }
 
 // Has each shard copy its history, and joins the copies.
-pub(crate) fn copy_all<D: PageDevice + Send, R: Wait>(
+fn copy_all<D: PageDevice + Send, R: Wait>(
     rt: &R,
     alloc: Global,
     turns: &Vec<Turn<Shard<D>>>,
@@ -120,29 +87,29 @@ fn hottest_of(alloc: Global, history: &History, n: usize) -> Result<PageList, Al
     Ok(PageList::of(pages))
 }
 
-// Has each shard copy its history, and lists the hottest pages of all copies.
-fn list_all<D: PageDevice + Send, R: Wait>(
-    rt: &R,
-    alloc: Global,
-    turns: &Vec<Turn<Shard<D>>>,
-    passes: &mut Vec<Pass<Shard<D>>>,
-    n: usize,
-) -> Result<PageList, Stopped>
-    requires turns { AreTurns turns.now.items }
-    requires passes { AreOf turns.now.items passes.old.items }
-    ensures passes { AreOf turns.now.items passes.new.items }
-    ensures listed { IfOk result (λ pages. ListsAll n pages passes.old.items passes.new.items) }
-    ensures stopped { IfErr result (λ at. CopyFails at.shard at.fault passes.old.items
-        passes.new.items) }
+// A peer that has this history.
+fn peer_with(alloc: Global, id: ReplicaId, history: &History) -> Result<Peer, AllocError>
+    ensures id { IfOk result (λ peer. peer.id ≡ id) }
+    ensures history { IfOk result (λ peer. peer.history ≡ history.now) }
 {
-    let copy = copy_all(rt, alloc, turns, passes)?;
-    let Ok(pages) = hottest_of(alloc, &copy, n) else {
-        return Err(Stopped {
-            fault: SharedFault::Node(NodeFault::Memory),
-            shard: turns.len(),
-        });
-    };
-    Ok(pages)
+    // The join of no references and of a history is the history.
+    prove_is_history(history);
+    let mut peer = Peer::new(alloc, id);
+    peer.join(history)?;
+    Ok(peer)
+}
+
+// What a replica of this number that has this history answers to a message.
+fn answer_of(
+    alloc: Global,
+    id: ReplicaId,
+    history: &History,
+    message: &Message,
+) -> Result<MessageList, AllocError>
+    ensures { IfOk result (IsAnswer id history.now message.now) }
+{
+    let mut peer = peer_with(alloc, id, history)?;
+    peer.answers(message)
 }
 
 impl<D: PageDevice + Send> SharedShards<D> {
@@ -194,7 +161,47 @@ impl<D: PageDevice + Send> SharedShards<D> {
             CopyFails at.shard at.fault attached.old.passes attached.new.passes) }
         ensures pins { attached.new.pins ≡ attached.old.pins }
     {
-        let pages = list_all(rt, alloc, &self.turns, &mut attached.passes, n)?;
+        let copy = self.history(rt, alloc, attached)?;
+        let Ok(pages) = hottest_of(alloc, &copy, n) else {
+            return Err(Stopped {
+                fault: SharedFault::Node(NodeFault::Memory),
+                shard: self.count(),
+            });
+        };
         Ok(pages)
+    }
+
+    /// The messages with which a replica would answer this one that has the history of all shards,
+    /// as [`warm_shards::Shards::answers`] of shards that no thread shares. The history is that of
+    /// [`SharedShards::history`]: each shard copies its own in one turn, in the order of the shards,
+    /// in which the call `CopyHistory` is answered. No shard takes the message in, or forgets
+    /// anything. The copy is in memory twice until the answer is made.
+    ///
+    /// # Errors
+    /// Those of `history`; and `Node(Memory)`, where no memory was left for the answer, at the number
+    /// that says how many shards there are. Nothing has changed in any shard.
+    pub fn answers<R: Wait>(
+        &self,
+        rt: &R,
+        alloc: Global,
+        attached: &mut Attached<D>,
+        message: &Message,
+    ) -> Result<MessageList, Stopped>
+        requires { AreOf self.now attached.old.passes }
+        ensures attached { AreOf self.now attached.new.passes }
+        ensures answers { IfOk result (λ answers. AnswersByCopy self.now message.now answers
+            attached.old.passes attached.new.passes) }
+        ensures stopped { IfErr result (λ at.
+            CopyFails at.shard at.fault attached.old.passes attached.new.passes) }
+        ensures pins { attached.new.pins ≡ attached.old.pins }
+    {
+        let copy = self.history(rt, alloc, attached)?;
+        let Ok(answers) = answer_of(alloc, self.id(), &copy, message) else {
+            return Err(Stopped {
+                fault: SharedFault::Node(NodeFault::Memory),
+                shard: self.count(),
+            });
+        };
+        Ok(answers)
     }
 }

@@ -6,16 +6,14 @@ ghost use Rattle.warm_concurrent.specs.Clauses.{CallEnds};
 ghost use Rattle.warm_concurrent.specs.Gossip.{CompareFails, Compares, DigestsStop, ReceiveStops};
 ghost use Rattle.warm_concurrent.specs.Gossip.{RequestStops, ShardsReceive, ShardsTakeDigests};
 ghost use Rattle.warm_concurrent.specs.Gossip.{ShardsTakeRequest};
-ghost use Rattle.warm_concurrent.specs.ShardSteps.{shard_of_bucket};
-ghost use Rattle.warm_concurrent.specs.declared.call.ShardCall.TheVariants.{Send, SendSince};
-ghost use Rattle.warm_concurrent.specs.declared.call.ShardReply.TheVariants.{Portion, Sent};
+ghost use Rattle.warm_shard_machine.specs.ShardSteps.{shard_of_bucket};
+ghost use Rattle.warm_shard_machine.specs.declared.calls.ShardCall.TheVariants.{Send, SendSince};
+ghost use Rattle.warm_shard_machine.specs.declared.calls.ShardReply.TheVariants.{Portion, Sent};
 
 use crate::answering::{Offered, answer_all, gather};
-use crate::call::{ShardCall, ShardReply};
 use crate::fault::SharedFault;
 use crate::history_calls::{Stopped, raise_all};
 use crate::joining::take_parts;
-use crate::shard::Shard;
 use crate::shared::{Attached, SharedShards, call_shard};
 use std::alloc::{AllocError, Global};
 use std::sync::Wait;
@@ -24,6 +22,7 @@ use warm_digest::differing;
 use warm_frames::{BoxedMessage, DigestTable, Message, MessageList};
 use warm_gossip::NodeFault;
 use warm_peer::SentPortion;
+use warm_shard_machine::{Shard, ShardCall, ShardReply};
 use warm_stamps::{Bucket, BucketSet, PageId};
 use warm_turn::{Pass, Turn};
 

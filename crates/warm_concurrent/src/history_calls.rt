@@ -4,21 +4,20 @@ ghost use Rattle.std.specs.Prelude.{◌≡◌, ◌<◌, [], length, IfErr, IfOk,
 ghost use Rattle.warm_shards.specs.Shards.{IsShardCount};
 ghost use Rattle.warm_concurrent.specs.Attached.{AreOf, AreTurns};
 ghost use Rattle.warm_concurrent.specs.Clauses.{CallEnds};
-ghost use Rattle.warm_concurrent.specs.declared.call.ShardCall.TheVariants.{Raise, WarmList};
-ghost use Rattle.warm_concurrent.specs.declared.call.ShardReply.TheVariants.{Kept, Pages};
+ghost use Rattle.warm_shard_machine.specs.declared.calls.ShardCall.TheVariants.{Raise, WarmList};
+ghost use Rattle.warm_shard_machine.specs.declared.calls.ShardReply.TheVariants.{Kept, Pages};
 ghost use Rattle.warm_concurrent.specs.Raising.{RaisesAll};
 ghost use Rattle.warm_concurrent.specs.Whole.{AbsorbFails, AbsorbsFirst, ArePartsOf, RaiseFails};
 ghost use Rattle.warm_concurrent.specs.Whole.{RaisesFirst};
 
-use crate::call::{ShardCall, ShardReply};
 use crate::fault::SharedFault;
 use crate::pool_calls::do_in;
-use crate::shard::Shard;
 use crate::shared::{Attached, SharedShards, call_shard};
 use std::alloc::{AllocError, Global};
 use std::sync::Wait;
 use warm_devices::PageDevice;
 use warm_gossip::NodeFault;
+use warm_shard_machine::{Shard, ShardCall, ShardReply};
 use warm_shards::shard_of;
 use warm_stamps::{PageList, RefList, Reference};
 use warm_turn::{Pass, Turn};

@@ -5,17 +5,16 @@ ghost use Rattle.warm_history.specs.Histories.{entries_of};
 ghost use Rattle.warm_concurrent.specs.Attached.{AreOf, AreTurns};
 ghost use Rattle.warm_concurrent.specs.Whole.{JoinFails, JoinsFirst, TakeFails, TakesFirst};
 
-use crate::call::ShardCall;
 use crate::fault::SharedFault;
 use crate::history_calls::Stopped;
 use crate::pool_calls::do_in;
-use crate::shard::Shard;
 use crate::shared::{Attached, SharedShards};
 use std::alloc::{AllocError, Global};
 use std::sync::Wait;
 use warm_devices::PageDevice;
 use warm_gossip::NodeFault;
 use warm_history::{Entry, History};
+use warm_shard_machine::{Shard, ShardCall};
 use warm_shards::part_of_entries;
 use warm_stamps::Items;
 use warm_turn::{Pass, Turn};

@@ -2,26 +2,18 @@
 //! `specs/Laws.antt` states in full.
 ghost use Rattle.warm_concurrent.specs.Given.{SharedIsOfGiven, SharedVictims, ThreadsGive};
 ghost use Rattle.warm_concurrent.specs.Given.{TwoThreadsAreHeld};
-ghost use Rattle.warm_concurrent.specs.Laws.{CallsAreANodes, OnlySeesMore, ShardIsOfGiven};
-ghost use Rattle.warm_concurrent.specs.Laws.{ShardsHoldTheirPages, TogetherAreOfGiven};
-ghost use Rattle.warm_concurrent.specs.Pins.{PinsAreCounted, PinsAreGiven, PinsComeBack};
-ghost use Rattle.warm_concurrent.specs.Pins.{TwoThreadsUnpin};
+ghost use Rattle.warm_shard_machine.specs.Laws.{ShardIsOfGiven};
+ghost use Rattle.warm_concurrent.specs.Laws.{OnlySeesMore, ShardsHoldTheirPages};
+ghost use Rattle.warm_concurrent.specs.Laws.{TogetherAreOfGiven};
+ghost use Rattle.warm_concurrent.specs.Pins.{PinsAreCounted, PinsComeBack, TwoThreadsUnpin};
+ghost use Rattle.warm_shard_machine.specs.Pins.{PinsAreGiven};
 ghost use Rattle.warm_concurrent.specs.Rights.{NodesComeBack};
-ghost use Rattle.warm_concurrent.specs.ToldDevices.{ToldAreOne};
 ghost use Rattle.std.specs.Thread.{IsSend, IsSync};
 ghost use Rattle.warm_concurrent.specs.contracts.shared.Attached.{the_row as attached_row};
 ghost use Rattle.warm_concurrent.specs.contracts.shared.SharedShards.{the_row as shared_row};
 
 use warm_devices::PageDevice;
-
-/// A legal list of calls of a shard is a legal list of steps of its node: of its calls, and of what
-/// it is asked beside them. That is to write back, of which a caller sees at most a count of
-/// failures, to pin pages that get zeros, or bytes that were read before, to name the next page of
-/// a warm-up, to forget pages, to replace devices, to take entries in, and to give what is in its
-/// history.
-pub fn calls_are_a_nodes()
-    ensures { CallsAreANodes }
-{}
+pub use warm_shard_machine::laws::{calls_are_a_nodes, told_devices_are_one};
 
 /// The headline. Once the shards are closed, the nodes together hold the two latest stamps of every
 /// page among all references that any call of any thread gave any shard, and those with which the
@@ -86,11 +78,6 @@ pub fn pins_are_counted()
     ensures threads { PinsAreCounted }
     ensures closed { PinsComeBack }
     ensures two { TwoThreadsUnpin }
-{}
-
-/// The numbers by which the call `Retire` tells of a device are those of one state alone.
-pub fn told_devices_are_one()
-    ensures { ToldAreOne }
 {}
 
 /// Where devices may go from one thread to another, threads may share shards, and what a thread has

@@ -2,9 +2,7 @@
 #![tactic(auto)]
 
 mod answering;
-mod asking;
 mod attaching;
-mod call;
 mod copying;
 mod engine_calls;
 mod fault;
@@ -14,24 +12,19 @@ mod gossip;
 mod history_calls;
 mod joining;
 pub mod laws;
-mod lending;
 mod looking;
 mod pool_calls;
 mod retiring;
-mod shard;
 mod shared;
 mod sharing;
-mod visitors;
 mod writing;
 
 pub use attaching::{NotClosed, NotDetached};
-pub use call::{ShardCall, ShardReply};
-pub use copying::BoxedHistory;
 pub use fault::SharedFault;
 pub use gossip::NotReceived;
 pub use history_calls::Stopped;
 pub use retiring::NotRetired;
-pub use shard::{Shard, StateOfShard};
 pub use shared::{Attached, SharedShards};
 pub use sharing::Sharing;
+pub use warm_shard_machine::{BoxedHistory, Shard, ShardCall, ShardReply, StateOfShard};
 pub use writing::NotWritten;

@@ -4,15 +4,14 @@ ghost use Rattle.std.specs.Fn.{FnOnceReturnsAt, FnOnceReturnsAtMut};
 ghost use Rattle.warm_shards.specs.Shards.{shard_of};
 ghost use Rattle.warm_concurrent.specs.Attached.{AreOf, AreTurns};
 ghost use Rattle.warm_concurrent.specs.Clauses.{CallFails};
-ghost use Rattle.warm_concurrent.specs.Visits.{ChangesPageAt, LooksAt};
-ghost use Rattle.warm_concurrent.specs.declared.call.ShardCall.TheVariants.{Change, Look};
+ghost use Rattle.warm_concurrent.specs.Looking.{ChangesPageAt, LooksAt};
+ghost use Rattle.warm_shard_machine.specs.declared.calls.ShardCall.TheVariants.{Change, Look};
 
 use crate::fault::SharedFault;
-use crate::shard::{Place, Shard};
 use crate::shared::{Attached, SharedShards, visit_or_back};
-use crate::visitors::{Changing, Looking, Went};
 use std::sync::Wait;
 use warm_devices::PageDevice;
+use warm_shard_machine::{Changing, Looking, Place, Shard, Went};
 use warm_shards::shard_of;
 use warm_stamps::PageId;
 use warm_turn::{Pass, Turn};

@@ -4,25 +4,25 @@ ghost use Rattle.warm_gossip.specs.declared.fault.NodeFault.TheVariants.{Memory}
 ghost use Rattle.warm_shards.specs.Shards.{shard_of};
 ghost use Rattle.warm_concurrent.specs.Attached.{AreOf, AreTurns};
 ghost use Rattle.warm_concurrent.specs.Clauses.{CallEnds, SlotCallEnds, shard_done};
-ghost use Rattle.warm_concurrent.specs.Clauses.{IsDoneCall};
-ghost use Rattle.warm_concurrent.specs.declared.call.ShardCall.TheVariants.{Pin, Read, Unpin};
-ghost use Rattle.warm_concurrent.specs.declared.call.ShardCall.TheVariants.{Victim, WarmNext};
-ghost use Rattle.warm_concurrent.specs.declared.call.ShardCall.TheVariants.{WarmStep, Write};
-ghost use Rattle.warm_concurrent.specs.declared.call.ShardReply.TheVariants.{Bytes, Loaded, Page};
-ghost use Rattle.warm_concurrent.specs.declared.call.ShardReply.TheVariants.{Pinned};
+ghost use Rattle.warm_shard_machine.specs.ShardSteps.{IsDoneCall};
+ghost use Rattle.warm_shard_machine.specs.declared.calls.ShardCall.TheVariants.{Pin, Read, Unpin};
+ghost use Rattle.warm_shard_machine.specs.declared.calls.ShardCall.TheVariants.{Victim, WarmNext};
+ghost use Rattle.warm_shard_machine.specs.declared.calls.ShardCall.TheVariants.{WarmStep, Write};
+ghost use Rattle.warm_shard_machine.specs.declared.calls.ShardReply.TheVariants.{Bytes, Loaded};
+ghost use Rattle.warm_shard_machine.specs.declared.calls.ShardReply.TheVariants.{Page, Pinned};
 ghost use Rattle.warm_concurrent.specs.declared.fault.SharedFault.TheVariants.{NoPins, Node};
 ghost use Rattle.warm_concurrent.specs.declared.fault.SharedFault.TheVariants.{PinsFull};
 
-use crate::call::{ShardCall, ShardReply};
 use crate::fault::SharedFault;
-use crate::shard::Shard;
 use crate::shared::{Attached, SharedShards, call_shard, visit_or_back};
-use crate::visitors::{Pinning, ReadInto, Reading, Unpinning, Went};
 use std::mem::replace;
 use std::sync::Wait;
 use warm_devices::PageDevice;
 use warm_gossip::NodeFault;
 use warm_pool::Slot;
+use warm_shard_machine::{
+    Pinning, ReadInto, Reading, Shard, ShardCall, ShardReply, Unpinning, Went,
+};
 use warm_shards::{ShardSlot, shard_of};
 use warm_stamps::{ByteList, PageId};
 use warm_turn::{Pass, Turn};

@@ -1,22 +1,16 @@
 //! Replacing a device of a shard with another, in one turn of the shard.
 ghost use Rattle.std.specs.Prelude.{◌≡◌, ◌<◌, length, IfErr, IfOk, OnOk};
 ghost use Rattle.warm_concurrent.specs.Attached.{AreOf, AreTurns};
-ghost use Rattle.warm_concurrent.specs.Retiring.{ReplacesAs, ReplacesAt, RetireFailsAt};
-ghost use Rattle.warm_concurrent.specs.Retiring.{RetiresAs, RetiresAt};
-ghost use Rattle.warm_concurrent.specs.ShardSteps.{ShardStep};
-ghost use Rattle.warm_concurrent.specs.ToldDevices.{IsTold};
+ghost use Rattle.warm_concurrent.specs.Retiring.{ReplacesAt, RetireFailsAt, RetiresAt};
 
-use crate::call::{ShardCall, ShardReply};
 use crate::fault::SharedFault;
-use crate::shard::Shard;
 use crate::shared::{Attached, SharedShards, visit_or_back};
-use crate::visitors::visited;
-use boxcar::tag::{Names, Tag};
 use std::sync::Wait;
 use warm_devices::PageDevice;
 use warm_gossip::NodeFault;
 use warm_pool::RetireError;
-use warm_turn::{Pass, Turn, Visit, Visited};
+use warm_shard_machine::{Replacing, Shard};
+use warm_turn::{Pass, Turn};
 
 /// Why a device was not replaced, and the device that was to replace it.
 #[derive(Drop)]
@@ -25,162 +19,6 @@ pub struct NotRetired<D: PageDevice> {
     pub fault: SharedFault,
     /// The new device, unchanged.
     pub device: D,
-}
-
-// A tag of the state of a device.
-struct OfDevice;
-
-impl<D: PageDevice> Names<D> for OfDevice {
-    ghost use Rattle.warm_concurrent.specs.ToldDevices.{coded_device};
-
-    ghost numbers = { λ device. coded_device (D.state device) };
-}
-
-// The state of a device as numbers, which exist only in contracts.
-fn told_of<D: PageDevice>(device: &D) -> Tag
-    ensures { IsTold result (D.state device.now) }
-{
-    Tag::of::<D, OfDevice>(device)
-}
-
-// Replaces a device with another, and drops the old one.
-pub(crate) struct Retiring<D> {
-    pub(crate) dev: u16,
-    pub(crate) device: D,
-}
-
-impl<D: PageDevice + Send> Visit<Shard<D>> for Retiring<D> {
-    ghost use Rattle.std.specs.Prelude.{◌≡◌, ⊤, IfErr};
-    ghost use Rattle.warm_concurrent.specs.Retiring.{RetiresAs};
-
-    type Output = Result<(), RetireError<D>>;
-
-    ghost ready = { λ _. ⊤ };
-
-    ghost makes = { λ v output call reply.
-        RetiresAs (λ e. e.fault) v.dev (D.state v.device) output call reply
-        × IfErr output (λ e. e.device ≡ v.device) };
-
-    fn visit(
-        self,
-        shard: &mut Shard<D>,
-    ) -> Visited<ShardCall, ShardReply, Result<(), RetireError<D>>> {
-        let Retiring { dev, device } = self;
-        shard.retire(dev, device)
-    }
-}
-
-// Replaces a device with another, and gives the old one back.
-pub(crate) struct Replacing<D> {
-    pub(crate) dev: u16,
-    pub(crate) device: D,
-}
-
-impl<D: PageDevice + Send> Visit<Shard<D>> for Replacing<D> {
-    ghost use Rattle.std.specs.Prelude.{◌≡◌, ⊤, IfErr};
-    ghost use Rattle.warm_concurrent.specs.Retiring.{ReplacesAs};
-
-    type Output = Result<D, RetireError<D>>;
-
-    ghost ready = { λ _. ⊤ };
-
-    ghost makes = { λ v output call reply.
-        ReplacesAs D.state (λ e. e.fault) v.dev (D.state v.device) output call reply
-        × IfErr output (λ e. e.device ≡ v.device) };
-
-    fn visit(
-        self,
-        shard: &mut Shard<D>,
-    ) -> Visited<ShardCall, ShardReply, Result<D, RetireError<D>>> {
-        let Replacing { dev, device } = self;
-        shard.replace(dev, device)
-    }
-}
-
-impl<D: PageDevice> Shard<D> {
-    // Replaces a device of this shard with another, and gives the old one back.
-    fn replace(
-        &mut self,
-        dev: u16,
-        device: D,
-    ) -> Visited<ShardCall, ShardReply, Result<D, RetireError<D>>>
-        ensures made { ReplacesAs D.state (λ e. e.fault) dev (D.state device) result.output
-            result.made.call.value result.made.reply.value }
-        ensures given_back { IfErr result.output (λ e. e.device ≡ device) }
-        ensures step { ShardStep self.old result.made.call.value result.made.reply.value
-            self.new }
-    {
-        let told = told_of(&device);
-        let call = ShardCall::Retire { dev, device: told };
-        match self.node.replace(dev, device) {
-            Ok(was) => {
-                let given = told_of(&was);
-                visited(call, ShardReply::Replaced { was: given }, Ok(was))
-            }
-            Err(unreplaced) => {
-                let why = NodeFault::Pool(unreplaced.fault);
-                visited(call, ShardReply::Refused(why), Err(unreplaced))
-            }
-        }
-    }
-
-    // Replaces a device of this shard with another, and drops the old one.
-    fn retire(
-        &mut self,
-        dev: u16,
-        device: D,
-    ) -> Visited<ShardCall, ShardReply, Result<(), RetireError<D>>>
-        ensures made { RetiresAs (λ e. e.fault) dev (D.state device) result.output
-            result.made.call.value result.made.reply.value }
-        ensures given_back { IfErr result.output (λ e. e.device ≡ device) }
-        ensures step { ShardStep self.old result.made.call.value result.made.reply.value
-            self.new }
-    {
-        let told = told_of(&device);
-        let call = ShardCall::Retire { dev, device: told };
-        match self.node.retire(dev, device) {
-            Ok(()) => visited(call, ShardReply::Done, Ok(())),
-            Err(unretired) => {
-                let why = NodeFault::Pool(unretired.fault);
-                visited(call, ShardReply::Refused(why), Err(unretired))
-            }
-        }
-    }
-}
-
-// Replaces a device of one shard.
-fn retire_in<D: PageDevice + Send, R: Wait>(
-    rt: &R,
-    turns: &Vec<Turn<Shard<D>>>,
-    passes: &mut Vec<Pass<Shard<D>>>,
-    shard: usize,
-    dev: u16,
-    device: D,
-) -> Result<(), NotRetired<D>>
-    requires turns { AreTurns turns.now.items }
-    requires passes { AreOf turns.now.items passes.old.items }
-    requires there { shard < length turns.now.items }
-    ensures passes { AreOf turns.now.items passes.new.items }
-    ensures retired { OnOk result
-        (RetiresAt passes.old.items shard dev (D.state device) passes.new.items) }
-    ensures refused { IfErr result (λ unretired. RetireFailsAt passes.old.items shard dev
-        (D.state device) unretired.fault passes.new.items) }
-    ensures given_back { IfErr result (λ unretired. unretired.device ≡ device) }
-{
-    match visit_or_back(rt, turns, passes, shard, Retiring { dev, device }) {
-        Ok(Ok(())) => Ok(()),
-        Ok(Err(unretired)) => {
-            let RetireError { fault, device } = unretired;
-            Err(NotRetired {
-                fault: SharedFault::Node(NodeFault::Pool(fault)),
-                device,
-            })
-        }
-        Err(Retiring { dev: _, device }) => Err(NotRetired {
-            fault: SharedFault::TurnsSpent,
-            device,
-        }),
-    }
 }
 
 // Replaces a device of one shard, and gives the old one back.
@@ -274,6 +112,8 @@ impl<D: PageDevice + Send> SharedShards<D> {
         ensures given_back { IfErr result (λ unretired. unretired.device ≡ device) }
         ensures pins { attached.new.pins ≡ attached.old.pins }
     {
-        retire_in(rt, &self.turns, &mut attached.passes, shard, dev, device)
+        let was = self.replace(rt, attached, shard, dev, device)?;
+        drop(was);
+        Ok(())
     }
 }

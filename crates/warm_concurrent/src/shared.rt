@@ -1,20 +1,18 @@
 //! Shards that threads share, and what each thread has of them.
-ghost use Rattle.std.specs.Prelude.{◌≡◌, ◌<◌, ◌≤◌, [], length, map, IfErr, IfOk, OnErr, OnOk};
+ghost use Rattle.std.specs.Prelude.{◌≡◌, ◌<◌, length, IfErr, IfOk, OnErr};
 ghost use Rattle.warm_shards.specs.Shards.{IsShardCount, shard_of};
-ghost use Rattle.warm_concurrent.specs.Attached.{AreOf, AreTurns, OpenedAs, known_of, shard_turn};
+ghost use Rattle.warm_concurrent.specs.Attached.{AreOf, AreTurns, OpenedAs};
 ghost use Rattle.warm_concurrent.specs.Clauses.{AnsweredByShard, Spent};
 ghost use Rattle.warm_concurrent.specs.declared.fault.SharedFault.TheVariants.{TurnsSpent};
-ghost use Rattle.warm_concurrent.specs.ShardSteps.{IsOwn};
-ghost use Rattle.warm_concurrent.specs.Clauses.{MayAnswer};
-ghost use Rattle.warm_concurrent.specs.declared.call.ShardCall.{ShardCall};
-ghost use Rattle.warm_concurrent.specs.declared.call.ShardReply.{ShardReply};
+ghost use Rattle.warm_shard_machine.specs.ShardSteps.{MayAnswer};
+ghost use Rattle.warm_shard_machine.specs.declared.calls.ShardCall.{ShardCall};
+ghost use Rattle.warm_shard_machine.specs.declared.calls.ShardReply.{ShardReply};
 
-use crate::call::{ShardCall, ShardReply};
 use crate::fault::SharedFault;
-use crate::shard::Shard;
 use std::marker::Model;
 use std::sync::Wait;
 use warm_devices::PageDevice;
+use warm_shard_machine::{Shard, ShardCall, ShardReply};
 use warm_shards::shard_of;
 use warm_stamps::{PageId, ReplicaId};
 use warm_turn::{Pass, Turn, Visit};

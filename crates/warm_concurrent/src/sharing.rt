@@ -4,11 +4,11 @@ ghost use Rattle.std.specs.Prelude.{vec_capacity};
 ghost use Rattle.warm_concurrent.specs.Attached.{AreOf};
 ghost use Rattle.warm_concurrent.specs.Opening.{AreFirst, openings, shards_over};
 
-use crate::shard::Shard;
 use crate::shared::{Attached, SharedShards};
 use std::alloc::{AllocError, Global};
 use std::marker::Model;
 use warm_devices::PageDevice;
+use warm_shard_machine::Shard;
 use warm_shards::Shards;
 use warm_stamps::ReplicaId;
 use warm_turn::{Pass, Turn};
@@ -47,7 +47,7 @@ impl<D: PageDevice + Send> Drop for Sharing<D> {
 impl<D: PageDevice + Send> Model for Sharing<D> {
     ghost use Rattle.std.specs.Prelude.{List, ◌++◌};
     ghost use Rattle.warm_concurrent.specs.Opening.{AreFirst, AreNumbered, openings};
-    ghost use Rattle.warm_concurrent.specs.ShardSteps.{ShardState};
+    ghost use Rattle.warm_shard_machine.specs.ShardSteps.{ShardState};
 
     ghost Value = { List ShardState };
 

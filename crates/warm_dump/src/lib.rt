@@ -13,5 +13,5 @@ mod reading;
 mod writing;
 
 pub use fault::{DumpError, DumpFault};
-pub use reading::{MAX_READS, READ_SIZE, read_dump};
+pub use reading::{DUMP_READ_SIZE, MAX_DUMP_READS, read_dump};
 pub use writing::write_dump;

@@ -23,10 +23,10 @@ use warm_history::History;
 
 /// The maximum number of reads of the input. One that does not end by then is a
 /// [`DumpFault::ReadFault`].
-pub const MAX_READS: u64 = 1 << 40;
+pub const MAX_DUMP_READS: u64 = 1 << 40;
 
 /// The maximum number of bytes of one read.
-pub const READ_SIZE: usize = 65536;
+pub const DUMP_READ_SIZE: usize = 65536;
 
 // What was read of a dump so far.
 #[derive(Drop)]
@@ -237,8 +237,8 @@ impl DumpReader {
         ensures refused { IfErr result (λ why. IfSome (R.remaining reader.old)
             (λ text. IsDumpRefused text self.new.frame_start why)) }
     {
-        let mut buffer = vec![in self.alloc; 0u8; READ_SIZE]?;
-        for _ in 0..MAX_READS {
+        let mut buffer = vec![in self.alloc; 0u8; DUMP_READ_SIZE]?;
+        for _ in 0..MAX_DUMP_READS {
             if !self.read_some(reader, buffer.as_mut_slice())? {
                 return Ok(());
             }
@@ -282,8 +282,8 @@ impl DumpReader {
 /// format, and their senders any. The digests in the file are those of the history.
 ///
 /// It takes memory for the history that it returns, for one message, its bytes and its entries, and
-/// for [`READ_SIZE`] bytes that are read at a time. Beside these, entries wait to be joined to the
-/// history together: at most as many as a message may have, or an eighth as many as the history
+/// for [`DUMP_READ_SIZE`] bytes that are read at a time. Beside these, entries wait to be joined to
+/// the history together: at most as many as a message may have, or an eighth as many as the history
 /// has. Their list may keep capacity for as many again, and they are copied while they are joined.
 /// A history that was joined so takes less memory than one that takes the entries in message by
 /// message.
@@ -302,7 +302,8 @@ impl DumpReader {
 ///
 /// Refused at any point:
 /// - `Frame(Memory)`: an allocation failed;
-/// - `ReadFault`: the reader failed, or [`MAX_READS`] reads or 2^64 bytes did not reach its end.
+/// - `ReadFault`: the reader failed, or [`MAX_DUMP_READS`] reads or 2^64 bytes did not reach its
+///   end.
 pub fn read_dump<R: Read>(alloc: Global, reader: &mut R) -> Result<History, DumpError>
     ensures end { OnOk result (IsAtEnd (R.remaining reader.new)) }
     ensures dump { IfOk result (λ history. IfSome (R.remaining reader.old)

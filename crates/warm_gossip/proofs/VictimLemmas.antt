@@ -8,13 +8,13 @@ use Rattle.warm_rank.specs.Ranking.{IsVictim}
 use Rattle.warm_rank.specs.Laws.{IsFarthest}
 use Rattle.warm_rank.proofs.EvictionLemmas.{truncation_keeps_order}
 use Rattle.warm_rank.proofs.VictimLemmas.{victim_is_farthest}
+use Rattle.warm_frame_table.proofs.ListLemmas.{at_set}
 use Rattle.warm_pool.specs.declared.slot.Slot.{Slot}
 use Rattle.warm_pool.specs.declared.fault.PoolFault.{PoolFault}
 use Rattle.warm_pool.specs.declared.fault.PoolFault.TheVariants.{NoDevice, NoPage, AllFixed, ReadFault, WriteBack, FixesFull, OutOfPage, Fixed, Fault}
 use Rattle.warm_pool.specs.View.{PoolView, FrameView, frame_at, unfixed_pages}
-use Rattle.warm_pool.specs.Keeping.{FailsAt}
+use Rattle.warm_pool.specs.Unchanged.{FailsAt}
 use Rattle.warm_pool.specs.Pinning.{AddsFix, HasNoFreeFrame, PutsIn, PutRefused, LoadRefused, PinRefused}
-use Rattle.warm_pool.proofs.Slots.{at_set}
 use Rattle.warm_gossip.specs.declared.call.Call.{Call}
 use Rattle.warm_gossip.specs.declared.call.Call.TheVariants.{Absorb, Send, Offer, Receive, Horizon, Pin, Unpin, Read, Write, Victim, WarmList, WarmStep, Restart}
 use Rattle.warm_gossip.specs.declared.call.Reply.{Reply}

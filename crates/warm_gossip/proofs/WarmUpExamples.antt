@@ -9,7 +9,7 @@ use Rattle.warm_history.specs.ReferenceSets.{ReferenceSet, set_of_list}
 use Rattle.warm_history.specs.Histories.{history, references_of}
 use Rattle.warm_rank.specs.Ranking.{eviction_cmp, IsBefore, IsVictim, hottest_pages}
 use Rattle.warm_pool.specs.View.{PoolView, FrameView, DeviceView, device_at, contents_at, frame_at, is_page, IsAbsent}
-use Rattle.warm_pool.specs.Keeping.{KeepsContents}
+use Rattle.warm_pool.specs.Unchanged.{KeepsContents}
 use Rattle.warm_pool.specs.Pinning.{HasNoFreeFrame, PutsIn}
 use Rattle.warm_pool.proofs.Bytes.{found_page}
 use Rattle.warm_gossip.specs.declared.call.Call.TheVariants.{WarmStep}

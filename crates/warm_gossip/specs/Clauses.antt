@@ -5,7 +5,7 @@ use Rattle.warm_history.specs.Histories.{HistoryView, history_of_entries_at, joi
 use Rattle.warm_stamps.specs.declared.PageId.{PageId}
 use Rattle.warm_pool.specs.declared.fault.PoolFault.{PoolFault}
 use Rattle.warm_pool.specs.declared.fault.PoolFault.TheVariants.{Fault}
-use Rattle.warm_pool.specs.Keeping.{KeepsBytes, KeepsFrames}
+use Rattle.warm_pool.specs.Unchanged.{KeepsBytes, KeepsFrames}
 use Rattle.warm_pool.specs.PageBytes.{MakesDirty}
 use Rattle.warm_pool.specs.Pinning.{LeavesDevices, TakesFrame}
 use Rattle.warm_pool.specs.State.{IsSettled}

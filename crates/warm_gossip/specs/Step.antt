@@ -9,7 +9,7 @@ use Rattle.warm_pool.specs.declared.fault.PoolFault.TheVariants.{OutOfPage, Fixe
 use Rattle.warm_pool.specs.declared.slot.Slot.{Slot}
 use Rattle.warm_pool.specs.View.{PoolView, HasPage, IsAbsent, Holds, unfixed_pages, IsFixed}
 use Rattle.warm_pool.specs.View.{IsUnfixed}
-use Rattle.warm_pool.specs.Keeping.{FailsAt}
+use Rattle.warm_pool.specs.Unchanged.{FailsAt}
 use Rattle.warm_pool.specs.Pinning.{Pinned as PinnedIn, PinRefused, PutsIn, PutRefused, unpinned}
 use Rattle.warm_pool.specs.PageBytes.{IsRead, Written}
 use Rattle.warm_pool.specs.Retiring.{Emptied}

@@ -23,7 +23,7 @@ pub enum Call {
     Receive(Message),
     /// Forget all stamps before this time.
     Horizon(u64),
-    /// Pin a page, and load it into a frame of the pool where it isn't resident. A pinned page is
+    /// Pin a page, and load it into a frame of the pool if it isn't resident. A pinned page is
     /// not evicted.
     ///
     /// A pin is not a reference: it changes no rank. A caller that pins also absorbs a reference.
@@ -50,7 +50,7 @@ pub enum Call {
     },
     /// Name the page that would be evicted next.
     Victim,
-    /// List this many of the hottest pages, or all where there are fewer.
+    /// List this many of the hottest pages, or all if there are fewer.
     WarmList(usize),
     /// Load the hottest page that is not resident, among as many of the hottest as the pool has
     /// frames.

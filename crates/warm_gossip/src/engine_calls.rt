@@ -8,7 +8,7 @@
 ghost use Rattle.std.specs.Prelude.{◌≡◌, IfErr, IfOk, OnOk, length};
 ghost use Rattle.warm_pool.specs.Filling.{AreFromDevice, TakesFilled};
 ghost use Rattle.warm_pool.specs.Forgetting.{ForgetRefused, Forgets, MayForget};
-ghost use Rattle.warm_pool.specs.Keeping.{KeepsRanks};
+ghost use Rattle.warm_pool.specs.Unchanged.{KeepsRanks};
 ghost use Rattle.warm_pool.specs.Outcomes.{FlushDeviceFails, SettlesDevice, UnreadPinFails};
 ghost use Rattle.warm_pool.specs.Outcomes.{WritePageFails, WriteSomeFails, WritesPageBack};
 ghost use Rattle.warm_pool.specs.Outcomes.{WritesSomeBack, ZeroesPage};
@@ -28,12 +28,12 @@ use warm_stamps::PageId;
 
 impl<D: PageDevice> Node<D> {
     /// Pins a page as [`Node::pin`] does, and fills it with zeros. The page isn't read from its
-    /// device: so this is for a page that is new, or is to be overwritten. It becomes dirty. Where
+    /// device: so this is for a page that is new, or is to be overwritten. It becomes dirty. If
     /// it is resident, zeros are written to it as by [`Node::write`]. Allocation-free.
     ///
     /// **A pin is not a reference**: a caller that pins a page also absorbs a reference to it.
     ///
-    /// The next warm-up step begins with the hottest page again, also where no page was evicted:
+    /// The next warm-up step begins with the hottest page again, even if no page was evicted:
     /// it looks up once more the pages of the list that earlier steps had passed.
     ///
     /// # Errors
@@ -95,7 +95,7 @@ impl<D: PageDevice> Node<D> {
         Ok(left)
     }
 
-    /// Writes back one page, where it is resident and dirty, and returns whether it was, as
+    /// Writes back one page, if it is resident and dirty, and returns whether it was, as
     /// [`warm_pool::Pool::write_back_page`] does; otherwise nothing is changed. Its device is called
     /// once, and no other one. No device is flushed. Allocation-free.
     ///
@@ -111,7 +111,7 @@ impl<D: PageDevice> Node<D> {
         Ok(was_dirty)
     }
 
-    /// Writes back the dirty pages of one device, and flushes it where it is unflushed, as
+    /// Writes back the dirty pages of one device, and flushes it if it is unflushed, as
     /// [`warm_pool::Pool::flush_device`] does. Other devices, and the frames of their pages, are
     /// unchanged, whether the call is refused or not. Allocation-free.
     ///

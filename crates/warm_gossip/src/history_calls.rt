@@ -6,7 +6,7 @@ ghost use Rattle.warm_gossip.specs.declared.call.Reply.TheVariants.{Sent, Answer
 ghost use Rattle.warm_gossip.specs.declared.fault.NodeFault.TheVariants.{Memory};
 ghost use Rattle.warm_peer.specs.Answers.{IsAnswer};
 ghost use Rattle.warm_peer.specs.Since.{BringsHeld, HasMoreSince, sent_since};
-ghost use Rattle.warm_pool.specs.Keeping.{KeepsBytes};
+ghost use Rattle.warm_pool.specs.Unchanged.{KeepsBytes};
 ghost use Rattle.warm_pool.specs.State.{RankedBy};
 ghost use Rattle.warm_pool.specs.View.{view_of};
 ghost use Rattle.warm_gossip.specs.Clauses.{Answered, DevicesAfter, DevicesAnswered, Goes, Joins};
@@ -65,7 +65,7 @@ impl<D: PageDevice> Node<D> {
         Ok(())
     }
 
-    /// Takes entries in, at the later horizon, as those of a message are. Where no entry changes,
+    /// Takes entries in, at the later horizon, as those of a message are. If no entry changes,
     /// digests and the warm-up list stay cached, and no page is ranked again.
     ///
     /// # Errors
@@ -100,7 +100,7 @@ impl<D: PageDevice> Node<D> {
     /// are not before the later horizon. It is what a round of gossip with the history's owner
     /// would bring, in one step, as a restored history is brought.
     ///
-    /// Where no entry changes, digests and the warm-up list stay cached, and no page is ranked
+    /// If no entry changes, digests and the warm-up list stay cached, and no page is ranked
     /// again; otherwise all resident pages are.
     ///
     /// # Errors
@@ -129,7 +129,7 @@ impl<D: PageDevice> Node<D> {
     /// Allocation-free.
     ///
     /// A time that is not later than the horizon costs nothing. Otherwise the entries are scanned.
-    /// Where none loses a stamp, digests and the warm-up list stay cached; otherwise all resident
+    /// If none loses a stamp, digests and the warm-up list stay cached; otherwise all resident
     /// pages are ranked again.
     pub fn raise(&mut self, time: u64) -> u64
         ensures step { Goes self.old (Horizon time) (Kept result) self.new }
@@ -249,7 +249,7 @@ impl<D: PageDevice> Node<D> {
         Ok(message)
     }
 
-    /// The `n` hottest pages, hottest first, or all where there are fewer: the call `WarmList`.
+    /// The `n` hottest pages, hottest first, or all if there are fewer: the call `WarmList`.
     ///
     /// # Errors
     /// `Memory`: an allocation failed; nothing has changed.

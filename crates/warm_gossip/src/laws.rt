@@ -43,7 +43,7 @@ pub fn warm_up_loads()
 {}
 
 /// A pin of the page that a warm-up step would load next, and then its unpin, are that step: so
-/// where [`Node::pin_filled`] pins the page that [`Node::warm_next`] named, and the pin is removed,
+/// if [`Node::pin_filled`] pins the page that [`Node::warm_next`] named, and the pin is removed,
 /// with no call in between.
 pub fn filled_pin_is_a_warm_step()
     ensures { FilledPinIsWarmStep }

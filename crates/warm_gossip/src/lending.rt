@@ -34,7 +34,7 @@ impl<D: PageDevice> Node<D> {
     }
 
     /// All bytes of the slot's page, to be written to. Nothing is copied. The page becomes dirty,
-    /// even where nothing is written: it is written back before it is evicted. Allocation-free.
+    /// even if nothing is written: it is written back before it is evicted. Allocation-free.
     ///
     /// The slot must hold its page: [`warm_pool::Pool::holds`] of [`Node::pool`] tells. A result
     /// that may be a fault cannot lend bytes to be written to.
@@ -55,7 +55,7 @@ impl<D: PageDevice> Node<D> {
     /// slot that a pin of the page would give. Nothing that a caller sees changes. Allocation-free.
     ///
     /// Who has the node to himself while he reads the page has then the effect of a pin and an
-    /// unpin, without either. `None` where the page isn't resident, or has as many pins as can be
+    /// unpin, without either. `None` if the page isn't resident, or has as many pins as can be
     /// counted: [`Node::pin`] then loads it, or says why not.
     #[inline(always)]
     pub fn look_up(&mut self, page: PageId) -> Option<Slot>

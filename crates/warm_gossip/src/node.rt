@@ -111,7 +111,7 @@ impl<D: PageDevice> Node<D> {
     ///
     /// The definition *step* gives the effect of each call, and its refusals in their order: a
     /// refused call changes nothing that a caller sees but counts of failures. `Memory` occurs only
-    /// where an allocation fails; pin, unpin, write, victim, horizon and restart are
+    /// if an allocation fails; pin, unpin, write, victim, horizon and restart are
     /// allocation-free.
     ///
     /// No call makes a page dirty but a write. Only pins, warm-up steps and restarts use the

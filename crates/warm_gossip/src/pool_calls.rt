@@ -1,6 +1,6 @@
 //! The calls on a node's pool.
 ghost use Rattle.std.specs.Prelude.{◌≡◌, length, IfErr, IfOk, OnErr, OnOk};
-ghost use Rattle.warm_pool.specs.Keeping.{KeepsRanks};
+ghost use Rattle.warm_pool.specs.Unchanged.{KeepsRanks};
 ghost use Rattle.warm_pool.specs.Outcomes.{ReplacesDevice, RetireFails, RetiresDevice};
 ghost use Rattle.warm_pool.specs.State.{IsSettled};
 ghost use Rattle.warm_pool.specs.WritingBack.{WriteBackFails};
@@ -19,7 +19,7 @@ use warm_pool::{PoolFault, RetireError, Slot};
 use warm_stamps::{ByteList, PageId};
 
 impl<D: PageDevice> Node<D> {
-    /// Pins a page, and loads it into a frame where it isn't resident: the call `Pin`.
+    /// Pins a page, and loads it into a frame if it isn't resident: the call `Pin`.
     /// Allocation-free.
     ///
     /// **A pin is not a reference**: a caller that pins a page also absorbs a reference to it.
@@ -69,7 +69,7 @@ impl<D: PageDevice> Node<D> {
     /// Reads `len` bytes of the slot's page, from `at` on: the call `Read`.
     ///
     /// # Errors
-    /// In this order: `StaleSlot`, where the slot doesn't hold its page; `Pool(OutOfPage)`, where
+    /// In this order: `StaleSlot`, if the slot doesn't hold its page; `Pool(OutOfPage)`, if
     /// the bytes reach beyond its end; `Memory`.
     pub fn read(&self, slot: Slot, at: usize, len: usize) -> Result<ByteList, NodeFault>
         ensures { Answered self.now (Read slot at len) Bytes result self.now }
@@ -89,7 +89,7 @@ impl<D: PageDevice> Node<D> {
     /// that length. Allocation-free.
     ///
     /// # Errors
-    /// In this order: `StaleSlot`, where the slot doesn't hold its page; `Pool(OutOfPage)`, where
+    /// In this order: `StaleSlot`, if the slot doesn't hold its page; `Pool(OutOfPage)`, if
     /// the bytes reach beyond its end. `into` is then as it was.
     pub fn read_into(&self, slot: Slot, at: usize, into: &mut [u8]) -> Result<(), NodeFault>
         ensures read { OnOk result (Goes self.now (Read slot at (length into.old)) (Bytes into.new)
@@ -107,7 +107,7 @@ impl<D: PageDevice> Node<D> {
     /// Writes bytes into the slot's page, from `at` on: the call `Write`. Allocation-free.
     ///
     /// # Errors
-    /// In this order: `StaleSlot`, where the slot doesn't hold its page; `Pool(OutOfPage)`, where
+    /// In this order: `StaleSlot`, if the slot doesn't hold its page; `Pool(OutOfPage)`, if
     /// the bytes reach beyond its end. Nothing has changed.
     pub fn write(&mut self, slot: Slot, at: usize, bytes: &[u8]) -> Result<(), NodeFault>
         ensures step { Answered self.old (Write slot at bytes.now) done result self.new }
@@ -121,7 +121,7 @@ impl<D: PageDevice> Node<D> {
         Ok(())
     }
 
-    /// The page that would be evicted next, where there is one: the call `Victim`. Allocation-free.
+    /// The page that would be evicted next, if there is one: the call `Victim`. Allocation-free.
     pub fn victim(&mut self) -> Option<PageId>
         ensures step { Goes self.old Victim (Page result) self.new }
         ensures same { self.new ≡ self.old }
@@ -151,7 +151,7 @@ impl<D: PageDevice> Node<D> {
     ///
     /// # Errors
     /// `Pool(Fault)` at the first write or flush that fails. Of what a caller sees, only one count
-    /// of failures has changed; the pages written before the failure are clean, and where a flush
+    /// of failures has changed; the pages written before the failure are clean, and if a flush
     /// failed no page is dirty.
     pub fn write_back(&mut self) -> Result<(), NodeFault>
         ensures same { OnOk result (SameView self.old self.new) }

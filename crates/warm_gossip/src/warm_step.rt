@@ -30,7 +30,7 @@ use warm_stamps::PageId;
 const MAX_CHANGED: usize = 4 * MAX_ENTRIES;
 
 /// The progress of a warm-up: the hottest pages, hottest first, as many as the pool has frames,
-/// where the list is cached; the pages of which references came since it was made; and how many of
+/// if the list is cached; the pages of which references came since it was made; and how many of
 /// the list are passed. None of the passed pages could be loaded: each is resident, or no device
 /// has it.
 #[derive(Drop)]
@@ -53,7 +53,7 @@ impl WarmUp {
     }
 
     /// Notes the pages to which references came. The next step looks these up, and keeps the rest
-    /// of the list. Where a list is cached and there is no room for them, it is dropped: that step
+    /// of the list. If a list is cached and there is no room for them, it is dropped: that step
     /// then makes a new one. Room is allocated with the list, so this is allocation-free.
     pub(crate) fn note<T: NamesPage>(&mut self, alloc: Global, items: &[T])
         ensures { Notes (map T.named items.now) self.old self.new }
@@ -87,7 +87,7 @@ fn add_pages<T: NamesPage>(changed: &mut Vec<PageId>, items: &[T]) -> Result<(),
 
 impl<D: PageDevice> Node<D> {
     /// Loads the hottest page that is not resident and that a device has, among as many of the
-    /// hottest as the pool has frames, and returns it; `None` where there is none: the call
+    /// hottest as the pool has frames, and returns it; `None` if there is none: the call
     /// `WarmStep`. A standby calls it until it returns `None`, before the standby takes over.
     ///
     /// The list of these pages is made at the first step, at the cost of [`Node::warm_list`], and
@@ -126,7 +126,7 @@ impl<D: PageDevice> Node<D> {
         Ok(Some(page))
     }
 
-    /// The page that [`Node::warm_step`] would load now; `None` where there is none. Nothing is
+    /// The page that [`Node::warm_step`] would load now; `None` if there is none. Nothing is
     /// loaded. So a program that reads pages by itself warms the pool up: it reads this page, pins
     /// it by [`Node::pin_filled`], and removes the pin. That is the warm-up step, unless another
     /// call came in between ([`crate::laws::filled_pin_is_a_warm_step`]).
@@ -254,7 +254,7 @@ fn passed_at_load(history: &History, at: usize, page: PageId, evicted: Option<Pa
     }
 }
 
-/// The number of pages that are still passed after a pin: 0 where it evicted a page, which may be
+/// The number of pages that are still passed after a pin: 0 if it evicted a page, which may be
 /// one of them.
 pub(crate) fn passed_at_pin(passed: usize, evicted: Option<PageId>) -> usize
     ensures { PassedAtPin evicted passed result }

@@ -81,7 +81,7 @@ fn push_bucket(
 /// The entries of a bucket, at the greater of the horizon and the history's own, in page order, in
 /// messages of up to 1000. It costs a scan of the bucket.
 ///
-/// `AllocError` occurs only where an allocation fails.
+/// `AllocError` occurs only if an allocation fails.
 pub(crate) fn bucket_at(
     alloc: Global,
     id: ReplicaId,
@@ -101,7 +101,7 @@ pub(crate) fn bucket_at(
 /// bucket by bucket in rising order and each in page order, in messages of up to 1000. It costs a
 /// scan of these buckets: older stamps are skipped as they are read.
 ///
-/// `AllocError` occurs only where an allocation fails.
+/// `AllocError` occurs only if an allocation fails.
 pub(crate) fn requested_messages(
     alloc: Global,
     id: ReplicaId,
@@ -150,10 +150,10 @@ fn answer_given(
 }
 
 /// The answer of a peer with this history to the digests of another replica, at the greater
-/// horizon: its own entries of the buckets that differ, and then a request for these; nothing where
+/// horizon: its own entries of the buckets that differ, and then a request for these; nothing if
 /// none differs.
 ///
-/// `AllocError` occurs only where an allocation fails.
+/// `AllocError` occurs only if an allocation fails.
 pub(crate) fn answer_to_digests(
     alloc: Global,
     id: ReplicaId,

@@ -26,7 +26,7 @@ pub fn chunks_in_turn()
 /// A round of gossip: a replica offers the digests of its history to another, and each receives all
 /// answers of the other, until both have answered. Afterwards both histories have the entries of
 /// the join of the two before. The second has the join's horizon, the later one; the first has it
-/// where the second answered the offer. Or two different texts of one bucket, one of each replica,
+/// if the second answered the offer. Or two different texts of one bucket, one of each replica,
 /// have the same SHA-256 digest: that of the second replica at the later horizon.
 pub fn gossip_round_joins()
     ensures { HistoryRoundJoins }

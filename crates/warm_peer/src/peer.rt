@@ -160,7 +160,7 @@ impl Peer {
 
     /// A message of the digests of all buckets.
     ///
-    /// The digests are cached. Having them costs nothing where no entry has changed since the last
+    /// The digests are cached. Having them costs nothing if no entry has changed since the last
     /// offer or the last digests received. Otherwise it costs a scan of the buckets of the changed
     /// entries, whose entries are hashed.
     ///

@@ -9,7 +9,7 @@ use warm_history::Portion;
 use warm_stamps::{Bucket, PageId};
 
 /// A message of the first entries of a bucket that a peer sends, and whether more of them follow.
-/// Where more follow, the page of the message's last entry is the one after which to go on.
+/// If more follow, the page of the message's last entry is the one after which to go on.
 #[derive(Debug, Drop)]
 pub struct SentPortion {
     /// The message, of entries.
@@ -21,10 +21,10 @@ pub struct SentPortion {
 impl Peer {
     /// A message of the first entries of a bucket, up to MAX_ENTRIES, of those whose page is
     /// greater than `after` and whose latest stamp is not before the time `since`; and whether more
-    /// of these follow. It is for a replica that publishes its history one way, where nobody
-    /// answers: of each bucket it sends what is new since it last sent it, and at `since` 0 all.
-    /// An entry has both its stamps, also where the second latest is before `since`. The times are
-    /// those of stamps, and not of when they were absorbed: where references come late, `since` is
+    /// of these follow. It is for a replica that publishes its history one way, to others that do
+    /// not answer: of each bucket it sends what is new since it last sent it, and at `since` 0 all.
+    /// An entry has both its stamps, even if the second latest is before `since`. The times are
+    /// those of stamps, and not of when they were absorbed: if references come late, `since` is
     /// that much earlier.
     ///
     /// Who receives such messages of all buckets, each until no more follow, and had all references

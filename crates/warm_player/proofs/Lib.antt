@@ -1,14 +1,14 @@
-pub mod Split
-pub mod Leading
+pub mod SplitLemmas
+pub mod LeadingDigitLemmas
 pub mod Numbers
 pub mod Words
 pub mod Hexes
 pub mod Digits
-pub mod Parts
-pub mod OnePass
+pub mod NumberPairLemmas
+pub mod FieldLemmas
 pub mod Stream
-pub mod Few
-pub mod Frequent
+pub mod DeviceCountLemmas
+pub mod FrequentLineLemmas
 mod Tables
 mod Workers
 mod Runs

@@ -4,8 +4,8 @@ use Rattle.std.proofs.lemmas.Bool.{lt-leb, le-leb}
 use Rattle.std.specs.List.{prefix_len}
 use Rattle.std.specs.Prelude.{option_map}
 use Rattle.warm_player.specs.Fields.{◌>>=◌, digit_of, digits_after, number_of, up_to, number_up_to}
-use Rattle.warm_player.specs.Heads.{is_digit, leading_digits, after_digits, head_number}
-use Rattle.warm_player.proofs.Leading.{digit_more, after_more}
+use Rattle.warm_player.specs.TextHeads.{is_digit, leading_digits, after_digits, head_number}
+use Rattle.warm_player.proofs.LeadingDigitLemmas.{digit_more, after_more}
 
 step : (n x d : ℕ) (rest : List ℕ) → digit_of x ≡ Some d
     → digits_after n (x ∷ rest) ≡ digits_after (10 * n + d) rest

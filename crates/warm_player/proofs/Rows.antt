@@ -23,7 +23,7 @@ use Rattle.warm_world.specs.declared.event.WorldFault.TheVariants.{Node}
 use Rattle.warm_player.specs.Text.{words}
 use Rattle.warm_player.specs.Fields.{number_up_to, page_of_word, number_field, page_field, after_field}
 use Rattle.warm_player.specs.Grammar.{line_of, meaning, commands, refer_of, flush_of, send_of, deliver_of, pin_of, restart_of, horizon_of, show_of}
-use Rattle.warm_player.specs.Printed.{LineAnswered, Printed, PrintedFrom}
+use Rattle.warm_player.specs.Outputs.{LineAnswered, Printed, PrintedFrom}
 
 -- ---- a table of lines, each with what it prints
 

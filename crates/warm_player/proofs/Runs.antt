@@ -3,11 +3,11 @@ use Rattle.std.proofs.Common.{◌≡◌, inl, inr, ℕ, ◌+◌, List, [], ◌�
 use Rattle.warm_world.specs.declared.event.Event.{Event}
 use Rattle.warm_world.specs.declared.event.Answer.{Answer}
 use Rattle.warm_world.specs.States.{ModelState}
-use Rattle.warm_world.specs.Next.{Run}
+use Rattle.warm_world.specs.Effects.{Run}
 use Rattle.warm_player.specs.declared.parse.Line.{Line}
 use Rattle.warm_player.specs.declared.parse.Line.TheVariants as meant
 use Rattle.warm_player.specs.Grammar.{meaning}
-use Rattle.warm_player.specs.Printed.{LineAnswered, PrintedFrom}
+use Rattle.warm_player.specs.Outputs.{LineAnswered, PrintedFrom}
 use Rattle.warm_player.specs.Laws.{LineIs, LinesAre}
 
 -- the events of lines, answered so, and the run by them

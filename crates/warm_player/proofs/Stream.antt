@@ -8,10 +8,10 @@ use Rattle.std.proofs.Math.Nat.{min-eq_left, min_comm}
 use Rattle.std.proofs.Math.Seq.{take-append-add}
 use Rattle.std.proofs.lemmas.Bool.{cases_lt, ne_eqb, lt-ltb, ltb-true, ltb-false}
 use Rattle.std.proofs.lemmas.List.{append-nil, take_all, take-append-le, length-take, length-take-le}
-use Rattle.warm_random.proofs.Written.{Appends-then}
+use Rattle.warm_random.proofs.AppendLemmas.{Appends-then}
 use Rattle.warm_player.specs.Text.{IsLine, split, lines}
 use Rattle.warm_player.specs.Grammar.{meaning}
-use Rattle.warm_player.specs.Printed.{LineAnswered, PrintedFrom, Played, EndsIn}
+use Rattle.warm_player.specs.Outputs.{LineAnswered, PrintedFrom, Played, EndsIn}
 use Rattle.warm_player.specs.Reading.{Reads, PutsBytes, IsPut}
 use Rattle.warm_player.specs.Stream.{SessionView, HoldsLine, SessionStands, AddsBytes, AnswersLine, ReadsOn, PrintsEnding, Ends}
 use Rattle.warm_player.specs.Refusals.{StopsPlay, PlayRefused}
@@ -28,7 +28,7 @@ use Rattle.warm_world.specs.Opening.{AreFitting, FinishFails}
 use Rattle.warm_gossip.specs.Step.{IsFailed}
 use Rattle.warm_gossip.specs.declared.fault.NodeFault.{NodeFault}
 use Rattle.warm_history.specs.Histories.{history_of_entries}
-use Rattle.warm_world.specs.Stands.{WorldStands, Steps, ReplicaStands}
+use Rattle.warm_world.specs.WorldStands.{WorldStands, Steps, ReplicaStands}
 use Rattle.warm_world.specs.Views.{ReplicaView, WorldView}
 use Rattle.warm_gossip.specs.declared.fault.NodeFault.TheVariants as node_fault
 use Rattle.warm_world.specs.declared.event.WorldFault.TheVariants.{Node}

@@ -4,9 +4,9 @@ use Rattle.std.proofs.lemmas.Bool.{cases_Bool, cases_eq, eq-eqb, ne_eqb}
 use Rattle.std.specs.Prelude.{◌==◌, filter, option_map, if◌then◌else◌}
 use Rattle.warm_player.specs.Text.{split, words, has_bytes}
 use Rattle.warm_player.specs.Fields.{◌>>=◌, number_up_to}
-use Rattle.warm_player.specs.Heads.{is_digit, leading_digits, after_digits, head_number}
-use Rattle.warm_player.specs.Heads.{words_behind}
-use Rattle.warm_player.proofs.Leading.{digit_more, digit_stop, after_more, after_stop, all_digits, end_or_other, other_number}
+use Rattle.warm_player.specs.TextHeads.{is_digit, leading_digits, after_digits, head_number}
+use Rattle.warm_player.specs.TextHeads.{words_behind}
+use Rattle.warm_player.proofs.LeadingDigitLemmas.{digit_more, digit_stop, after_more, after_stop, all_digits, end_or_other, other_number}
 
 -- ---- the first word of a text that begins with no space, and the words behind it
 

@@ -5,15 +5,15 @@ use Rattle.warm_world.specs.declared.event.Event.{Event}
 use Rattle.warm_world.specs.declared.event.Answer.{Answer}
 use Rattle.warm_world.specs.declared.event.WorldFault.TheVariants.{Node}
 use Rattle.warm_world.specs.States.{ModelState}
-use Rattle.warm_world.specs.Next.{Run}
-use Rattle.warm_world.specs.Stands.{IsRightRun}
+use Rattle.warm_world.specs.Effects.{Run}
+use Rattle.warm_world.specs.WorldStands.{IsRightRun}
 use Rattle.warm_player.specs.declared.parse.Line.{Line}
 use Rattle.warm_player.specs.declared.parse.Line.TheVariants as meant
 use Rattle.warm_player.specs.Text.{lines}
 use Rattle.warm_player.specs.Grammar.{meaning}
 use Rattle.warm_player.specs.Reading.{IsPut}
 use Rattle.warm_player.specs.Answers.{answer_text, refused_text, bad_line}
-use Rattle.warm_player.specs.Printed.{Printed}
+use Rattle.warm_player.specs.Outputs.{Printed}
 
 -- A line of this meaning and number is these events with these answers, and prints this: one event,
 -- or none for a bad line, a line without meaning, and a put for whose bytes the allocation failed.

@@ -1,12 +1,12 @@
 pub mod Text
 pub mod Fields
-pub mod Heads
+pub mod TextHeads
 pub mod Grammar
 pub mod Parsing
 pub mod Workers
 pub mod Reading
 pub mod Answers
-pub mod Printed
+pub mod Outputs
 pub mod Stream
 pub mod Laws
 pub mod Refusals

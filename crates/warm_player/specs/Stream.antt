@@ -2,10 +2,10 @@
 use Rattle.std.specs.Prelude.{◌≡◌, ℕ, ◌+◌, List, [], ◌++◌, take}
 use Rattle.warm_world.specs.States.{ModelState}
 use Rattle.warm_world.specs.Views.{WorldView, world_view}
-use Rattle.warm_world.specs.Stands.{WorldStands}
+use Rattle.warm_world.specs.WorldStands.{WorldStands}
 use Rattle.warm_player.specs.Text.{IsLine, lines}
 use Rattle.warm_player.specs.Grammar.{meaning}
-use Rattle.warm_player.specs.Printed.{LineAnswered, PrintedFrom, EndsIn}
+use Rattle.warm_player.specs.Outputs.{LineAnswered, PrintedFrom, EndsIn}
 use Rattle.warm_player.specs.declared.parse.TheConstants.{MAX_LINE}
 use Rattle.warm_player.specs.declared.player.Session.{Session}
 

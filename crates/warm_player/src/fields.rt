@@ -9,7 +9,7 @@ ghost use Rattle.warm_player.specs.Fields.{digit_of, hex_digit_of, hex_pairs, by
 ghost use Rattle.warm_player.specs.Fields.{number_field, replica_field, worker_field};
 ghost use Rattle.warm_player.specs.Fields.{bucket_field, count_field, u64_field, page_field};
 ghost use Rattle.warm_player.specs.Fields.{after_field, slot_field};
-ghost use Rattle.warm_player.specs.Heads.{head_number, head_page, head_slot, is_digit};
+ghost use Rattle.warm_player.specs.TextHeads.{head_number, head_page, head_slot, is_digit};
 ghost use Rattle.warm_player.specs.Reading.{Reads, TakesMemory};
 
 use crate::parse::LineFault;
@@ -161,7 +161,7 @@ pub(crate) fn parse_bytes(alloc: Global, word: &[u8]) -> Result<ByteList, LineFa
 // ---- one field, and what follows it
 
 // A number.
-#[tactic(auto, using(crate::proofs::OnePass::number_read))]
+#[tactic(auto, using(crate::proofs::FieldLemmas::number_read))]
 #[inline(always)]
 fn number_in(fields: &[u8], limit: u64) -> Option<(u64, &[u8])>
     ensures value { option_map (λ x. (x.0, words x.1.now)) result
@@ -242,7 +242,7 @@ pub(crate) fn read_u64(fields: &[u8]) -> Option<(u64, &[u8])>
     number_in(fields, u64::MAX)
 }
 
-#[tactic(auto, using(crate::proofs::OnePass::page_read))]
+#[tactic(auto, using(crate::proofs::FieldLemmas::page_read))]
 pub(crate) fn read_page(fields: &[u8]) -> Option<(PageId, &[u8])>
     ensures { option_map (λ x. (x.0, words x.1.now)) result ≡ page_field (words fields.now) }
 {
@@ -250,7 +250,7 @@ pub(crate) fn read_page(fields: &[u8]) -> Option<(PageId, &[u8])>
 }
 
 // A page, or nothing where the line ends before it.
-#[tactic(auto, using(crate::proofs::OnePass::after_nothing, crate::proofs::OnePass::after_read), unfolding(crate::specs::Text::words))]
+#[tactic(auto, using(crate::proofs::FieldLemmas::after_nothing, crate::proofs::FieldLemmas::after_read), unfolding(crate::specs::Text::words))]
 pub(crate) fn read_after(fields: &[u8]) -> Option<(Option<PageId>, &[u8])>
     ensures { option_map (λ x. (x.0, words x.1.now)) result ≡ after_field (words fields.now) }
 {
@@ -262,7 +262,7 @@ pub(crate) fn read_after(fields: &[u8]) -> Option<(Option<PageId>, &[u8])>
     Some((Some(page), rest))
 }
 
-#[tactic(auto, using(crate::proofs::OnePass::slot_read))]
+#[tactic(auto, using(crate::proofs::FieldLemmas::slot_read))]
 pub(crate) fn read_slot(fields: &[u8]) -> Option<(Slot, &[u8])>
     ensures { option_map (λ x. (x.0, words x.1.now)) result ≡ slot_field (words fields.now) }
 {

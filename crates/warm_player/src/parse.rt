@@ -117,7 +117,7 @@ fn after_unpin(line: &[u8]) -> Option<&[u8]>
 
 // The meaning of a line of any length. The lines that are read most often are known by their first
 // bytes. Taken into its callers, which then copy no meaning.
-#[tactic(auto, using(crate::proofs::Frequent::ref_read, crate::proofs::Frequent::pin_read, crate::proofs::Frequent::unpin_read))]
+#[tactic(auto, using(crate::proofs::FrequentLineLemmas::ref_read, crate::proofs::FrequentLineLemmas::pin_read, crate::proofs::FrequentLineLemmas::unpin_read))]
 #[inline(always)]
 fn parsed_soon(line: &[u8]) -> Option<ParsedLine<'_>>
     ensures { line_of line.now ≡ option_and_then line_parsed result }
@@ -154,7 +154,7 @@ pub(crate) fn parsed_in(line: &[u8]) -> Option<ParsedLine<'_>>
 ///
 /// - `Bad` occurs exactly for a line of more than [`MAX_LINE`] bytes, and for one that has a word,
 ///   is not a comment and is not of the language.
-/// - `Memory` occurs only where the allocation for the bytes of a `put` fails, and only for a `put`
+/// - `Memory` occurs only if the allocation for the bytes of a `put` fails, and only for a `put`
 ///   of the language. Reading other lines is allocation-free.
 pub fn parse_line(alloc: Global, line: &[u8]) -> Result<Line, LineFault>
     ensures { Reads PutsBytes (meaning line.now) result }

@@ -7,12 +7,12 @@ ghost use Rattle.warm_world.specs.declared.play_fault.PlayFault.TheVariants.{Bad
 ghost use Rattle.warm_world.specs.declared.play_fault.PlayFault.TheVariants.{WriteFault};
 ghost use Rattle.warm_world.specs.Opening.{AreFew, AreFitting};
 ghost use Rattle.warm_world.specs.Views.{IsAtRest, listed, world_view};
-ghost use Rattle.warm_world.specs.Stands.{WorldStands};
+ghost use Rattle.warm_world.specs.WorldStands.{WorldStands};
 ghost use Rattle.warm_world.specs.declared.event.WorldFault.TheVariants.{Node};
 ghost use Rattle.warm_gossip.specs.declared.fault.NodeFault.TheVariants as node;
 ghost use Rattle.warm_player.specs.Text.{IsLine};
 ghost use Rattle.warm_player.specs.Answers.{bad_line, refused_text};
-ghost use Rattle.warm_player.specs.Printed.{Played};
+ghost use Rattle.warm_player.specs.Outputs.{Played};
 ghost use Rattle.warm_player.specs.Refusals.{OpeningRefused, PlayRefused, StopsAnswers};
 ghost use Rattle.warm_player.specs.Refusals.{StopsPlay};
 ghost use Rattle.warm_player.specs.Stream.{session, IsFresh, AddsBytes, AnswersLine};
@@ -286,7 +286,7 @@ pub const READ_SIZE: usize = 65_536;
 /// Reads a schedule to its end, and answers it line by line in a new world of this setup, whose
 /// replicas have these devices, a list for each. All devices have one type, which may be a box of
 /// any device. At the end all pages are written back and the devices flushed ([`World::finish`]);
-/// where that fails, the last line is `end refused 12 Fault`. The devices are dropped before it
+/// if that fails, the last line is `end refused 12 Fault`. The devices are dropped before it
 /// returns.
 ///
 /// It reads pieces of at most 65,536 bytes and keeps at most one line, so, apart from its world,
@@ -295,13 +295,13 @@ pub const READ_SIZE: usize = 65_536;
 /// answers, and at the end: a sender that waits after a line gets its answer before it sends the
 /// next. An interrupted read is repeated.
 ///
-/// - Where it returns `Ok`, the reader was read to its end, and the bytes written are exactly one
+/// - If it returns `Ok`, the reader was read to its end, and the bytes written are exactly one
 ///   of the possible outputs of the schedule from the opening state: over devices that never fail,
 ///   only the answers to its lines.
 /// - Bad lines and refused events are printed, and are not faults.
-/// - Where the devices are not one list for each replica, with pages of the setup's size, it
+/// - If the devices are not one list for each replica, with pages of the setup's size, it
 ///   returns [`PlayFault::BadDevices`], and nothing was read or written.
-/// - Where they are, it returns `Memory`, `ReadFault` or `WriteFault`, if not `Ok`. [`PlayFault`]
+/// - If they are, it returns `Memory`, `ReadFault` or `WriteFault`, if not `Ok`. [`PlayFault`]
 ///   says when each fault occurs.
 pub fn play<R: Read, W: Write, D: PageDevice>(
     alloc: Global,

@@ -313,7 +313,7 @@ pub fn print_bad_line<W: Write>(writer: &mut W, number: u64) -> io::Result<()>
     writeln!(writer, "bad line {number}")
 }
 
-/// Prints the last line of a play where writing back to the devices failed. After an error it is
+/// Prints the last line of a play if writing back to the devices failed. After an error it is
 /// unspecified how much of it was written.
 pub fn print_end_refused<W: Write>(writer: &mut W) -> io::Result<()>
     ensures { Prints result (W.contents writer.old) (W.contents writer.new) end_refused }

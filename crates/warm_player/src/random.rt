@@ -11,7 +11,7 @@ use warm_world::{PlayFault, Setup};
 /// the writer. The same seed, count and setup give the same bytes; no events give none. It is
 /// allocation-free.
 ///
-/// The only error is [`PlayFault::WriteFault`], where the writer failed. It is unspecified how much
+/// The only error is [`PlayFault::WriteFault`], if the writer failed. It is unspecified how much
 /// was written before.
 pub fn random_schedule<W: Write>(
     writer: &mut W,

@@ -2,11 +2,11 @@
 ghost use Rattle.std.specs.Prelude.{◌≡◌, ◌<◌, [], ◌∷◌, ◌++◌, None, length, MatchOption, IfSome};
 ghost use Rattle.std.specs.Prelude.{option_map};
 ghost use Rattle.warm_player.specs.Text.{IsLine, split, words};
-ghost use Rattle.warm_player.specs.Heads.{behind, words_behind};
+ghost use Rattle.warm_player.specs.TextHeads.{behind, words_behind};
 
 use memchr::memchr;
 
-/// The first line of a text, without its end (byte 0A), and what follows that end. `None` where no
+/// The first line of a text, without its end (byte 0A), and what follows that end. `None` if no
 /// line ends: the text is then the start of one line, or the last line. Allocation-free.
 pub fn first_line(text: &[u8]) -> Option<(&[u8], &[u8])>
     ensures line { MatchOption result (IsLine text.now) (λ x. IsLine x.0.now) }

@@ -7,17 +7,18 @@ use Rattle.warm_rank.specs.declared.RankKey.{RankKey}
 use Rattle.warm_devices.specs.Device.{DeviceState, CountsFault, page_at}
 use Rattle.warm_devices.specs.declared.fault.DeviceFault.{DeviceFault}
 use Rattle.warm_devices.specs.declared.fault.DeviceFault.TheVariants.{Read}
-use Rattle.warm_pool.specs.Frames.{FrameState, FramesState, nth_frame, fresh_frame, cleaned}
+use Rattle.warm_frame_table.specs.Frames.{FrameState, FramesState, nth_frame, fresh_frame}
+use Rattle.warm_frame_table.specs.FrameSteps.{cleaned}
+use Rattle.warm_frame_table.proofs.ListLemmas.{at_set}
 use Rattle.warm_pool.specs.State.{PoolState, IsPool, IsNowhere, nth_device}
 use Rattle.warm_pool.specs.View.{view_of, PoolView}
-use Rattle.warm_pool.specs.Keeping.{FailsAt, KeepsContents}
+use Rattle.warm_pool.specs.Unchanged.{FailsAt, KeepsContents}
 use Rattle.warm_pool.specs.WritingBack.{KeptDevices}
 use Rattle.warm_pool.specs.steps.WritingBack.{Cleans, CleanFails, WriteFails}
 use Rattle.warm_pool.specs.steps.Pinning.{LoadsInto, ReadFails}
 use Rattle.warm_pool.specs.Calls.{FlushesNone}
 use Rattle.warm_pool.specs.DeviceCalls.{PageRead, read_at}
-use Rattle.warm_pool.proofs.Slots.{at_set}
-use Rattle.warm_pool.proofs.Keeps.{pool_from, stored_honest, devices_keep_pool}
+use Rattle.warm_pool.proofs.PoolLemmas.{pool_from, stored_honest, devices_keep_pool}
 use Rattle.warm_pool.proofs.FlushLemmas.{may_fail}
 use Rattle.warm_pool.proofs.DeviceSteps.{read_keeps, read_once, read_counted, fails_at, same_view}
 use Rattle.warm_pool.proofs.CallLemmas.{read_none}

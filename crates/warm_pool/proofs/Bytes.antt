@@ -8,7 +8,7 @@ use Rattle.std.proofs.lemmas.List.FromFn.{get_or-map-range_with_len, length-map-
 use Rattle.std.proofs.Math.ListN.{get_or-map as mapped}
 use Rattle.warm_stamps.specs.declared.PageId.{PageId}
 use Rattle.warm_devices.specs.Device.{DeviceState}
-use Rattle.warm_pool.specs.Frames.{FrameState, nth_frame}
+use Rattle.warm_frame_table.specs.Frames.{FrameState, nth_frame}
 use Rattle.warm_pool.specs.State.{PoolState, IsPool, IsNowhere, nth_device}
 use Rattle.warm_pool.specs.View.{is_page, bytes_in, bytes_of, contents_of, frame_view, device_view, view_of, frame_at, device_at, contents_at, IsAbsent}
 

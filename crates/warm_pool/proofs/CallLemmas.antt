@@ -5,11 +5,11 @@ use Rattle.warm_devices.specs.Calls.{DeviceCalls, one_call}
 use Rattle.warm_devices.specs.Device.{DeviceState, CountsSettle}
 use Rattle.warm_devices.specs.declared.fault.DeviceFault.{DeviceFault}
 use Rattle.warm_devices.specs.declared.fault.DeviceFault.TheVariants.{Flush}
+use Rattle.warm_frame_table.proofs.ListLemmas.{at_set}
 use Rattle.warm_pool.specs.State.{nth_device, no_device}
 use Rattle.warm_pool.specs.Calls.{FlushesNone, FlushesOnce, ReadsNone}
 use Rattle.warm_pool.specs.DeviceCalls.{PageRead, PageWrite}
 use Rattle.warm_pool.specs.steps.Flushes.{FlushedTo, FlushStops}
-use Rattle.warm_pool.proofs.Slots.{at_set}
 
 -- No device is flushed
 

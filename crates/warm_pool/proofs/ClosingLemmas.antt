@@ -1,13 +1,15 @@
 -- Frames whose pages go to their devices one after the other.
 use Rattle.std.proofs.Common.{◌≡◌, ℕ, zero, suc, ◌+◌, ◌<◌, ◌≤◌, cond, Bool, true, false, IsTrue, List, [], ◌∷◌, length, set, refl, sym, ap, ◌∙◌, subst, arith}
 use Rattle.warm_devices.specs.Device.{DeviceState}
-use Rattle.warm_pool.specs.Frames.{FrameState, nth_frame, cleaned}
+use Rattle.warm_frame_table.specs.declared.selection.Devices.{Devices}
+use Rattle.warm_frame_table.specs.Frames.{FrameState, nth_frame}
+use Rattle.warm_frame_table.specs.FrameSteps.{cleaned}
+use Rattle.warm_frame_table.specs.Selection.{AreClean, selects}
 use Rattle.warm_pool.specs.State.{PoolState}
 use Rattle.warm_pool.specs.View.{view_of}
-use Rattle.warm_pool.specs.Keeping.{FailsAt}
-use Rattle.warm_pool.specs.WritingBack.{KeptDevices, WritesBack, StopsAt, clean_if, cleaned_selected, selects}
+use Rattle.warm_pool.specs.Unchanged.{FailsAt}
+use Rattle.warm_pool.specs.WritingBack.{KeptDevices, WritesBack, StopsAt, clean_if, cleaned_selected}
 use Rattle.warm_pool.specs.steps.WritingBack.{CleanFails}
-use Rattle.warm_pool.specs.declared.selection.Devices.{Devices}
 
 -- one frame more
 pub clean_more : (which : Devices) (n : ℕ) (frames : List FrameState) → n < length frames
@@ -39,6 +41,20 @@ nth_rest which zero frames i le = refl
 nth_rest which (suc n) [] i le = refl
 nth_rest which (suc n) (f ∷ frames) zero le = absurd (omega arith)
 nth_rest which (suc n) (f ∷ frames) (suc i) le = nth_rest which n frames i (omega arith)
+
+-- once all frames were reached, the selected ones are clean
+nth_clean : (which : Devices) (frames : List FrameState) (i : ℕ)
+    → IsTrue (selects which (nth_frame frames i).page)
+    → (nth_frame (cleaned_selected which (length frames) frames) i).dirty ≡ false
+nth_clean which [] i is = refl
+nth_clean which (f ∷ frames) zero is = ap (λ t. (cond t (cleaned f) f).dirty) is
+nth_clean which (f ∷ frames) (suc i) is = nth_clean which frames i is
+
+pub clean_to : (which : Devices) (old new : List FrameState)
+    → new ≡ cleaned_selected which (length old) old → AreClean which new
+clean_to which old new becomes i selected =
+    let page : (nth_frame new i).page ≡ (nth_frame old i).page = ap (λ frames. (nth_frame frames i).page) becomes ∙ nth_page which (length old) old i in
+    ap (λ frames. (nth_frame frames i).dirty) becomes ∙ nth_clean which old i (subst (λ held. IsTrue (selects which held)) page selected)
 
 -- a frame that is not selected is unchanged
 pub nth_other : (which : Devices) (n : ℕ) (frames : List FrameState) (i : ℕ)

@@ -10,16 +10,16 @@ use Rattle.warm_devices.specs.declared.fault.DeviceFault.TheVariants.{Read}
 use Rattle.warm_devices.specs.Calls.{one_call}
 use Rattle.warm_devices.specs.Device.{DeviceState, SameShape, CountsFault, page_at, one_more}
 use Rattle.warm_devices.specs.declared.fault.DeviceFault.{DeviceFault}
-use Rattle.warm_pool.specs.Frames.{FrameState, nth_frame}
+use Rattle.warm_frame_table.specs.Frames.{FrameState, nth_frame}
+use Rattle.warm_frame_table.proofs.ListLemmas.{at_set}
 use Rattle.warm_pool.specs.State.{PoolState, IsPool, no_device, nth_device}
 use Rattle.warm_pool.specs.View.{stored, view_of, device_view, PoolView}
-use Rattle.warm_pool.specs.Keeping.{FailsAt}
+use Rattle.warm_pool.specs.Unchanged.{FailsAt}
 use Rattle.warm_pool.specs.WritingBack.{KeptDevices}
 use Rattle.warm_pool.specs.DeviceCalls.{PageRead, PageWrite, ReadsPage, WritesPage, failed_at, read_at}
-use Rattle.warm_pool.proofs.Slots.{at_set}
 use Rattle.warm_pool.proofs.FlushLemmas.{same_shape}
 use Rattle.warm_pool.proofs.Bytes.{same_page, device_seen}
-use Rattle.warm_pool.proofs.Keeps.{view_of_kept}
+use Rattle.warm_pool.proofs.PoolLemmas.{view_of_kept}
 
 -- the device that a read of the list gave
 pub device_is : {B : Type 0} (shown : B → DeviceState) (bs : List B) (k : ℕ) (b : B) → k < length bs

@@ -2,8 +2,8 @@
 use Rattle.std.proofs.Common.{◌≡◌, ◌↔◌, ℕ, ◌+◌, ◌<◌, ◌≤◌, Bool, true, false, IsTrue, List, length, map, Option, Some, None, refl, sym, ◌∙◌, ap, arith, inl, inr}
 use Rattle.std.proofs.lemmas.Bool.{cases_eq}
 use Rattle.warm_stamps.specs.declared.PageId.{PageId}
-use Rattle.warm_pool.specs.Frames.{FrameState, nth_frame}
-use Rattle.warm_pool.specs.frame_table.PageTable.{IsPlaceOf}
+use Rattle.warm_frame_table.specs.Frames.{FrameState, nth_frame}
+use Rattle.warm_frame_table.specs.Places.{IsPlaceOf}
 use Rattle.warm_pool.specs.State.{PoolState, IsPool}
 use Rattle.warm_pool.specs.WritingSome.{IsDirty, IsDirtyPage, IsNotDirty, NoneDirty}
 use Rattle.warm_pool.proofs.OnePage.{found_dirty, found_clean, found_none}

@@ -8,20 +8,22 @@ use Rattle.warm_history.specs.Histories.{HistoryView, hist, references_of}
 use Rattle.warm_rank.specs.Keys.{rank_key}
 use Rattle.warm_devices.specs.Device.{DeviceState}
 use Rattle.warm_rank.specs.declared.TheConstants.{MAX_FRAMES}
-use Rattle.warm_pool.specs.Frames.{FrameState, FramesState, nth_frame, fresh_frame, vacated}
+use Rattle.warm_frame_table.specs.declared.selection.Devices.{Devices}
+use Rattle.warm_frame_table.specs.declared.selection.Devices.TheVariants.{All, One, PagesFrom}
+use Rattle.warm_frame_table.specs.Frames.{FrameState, FramesState, nth_frame, fresh_frame}
+use Rattle.warm_frame_table.specs.FrameSteps.{vacated}
+use Rattle.warm_frame_table.specs.Selection.{selects, vacate_if, vacated_selected}
 use Rattle.warm_pool.specs.State.{PoolState, IsPool, IsNowhere, IsSettled, nth_device}
 use Rattle.warm_pool.specs.View.{stored, view_of, frame_view, bytes_of, PoolView, HasPage, contents_at, device_at}
-use Rattle.warm_pool.specs.Keeping.{KeepsContents}
-use Rattle.warm_pool.specs.WritingBack.{WritesBack, selects, cleaned_selected}
-use Rattle.warm_pool.specs.Retiring.{Emptied, emptied, vacate_if, vacated_selected}
+use Rattle.warm_pool.specs.Unchanged.{KeepsContents}
+use Rattle.warm_pool.specs.WritingBack.{WritesBack, cleaned_selected}
+use Rattle.warm_pool.specs.Retiring.{Emptied, emptied}
 use Rattle.warm_pool.specs.steps.Retiring.{AreUnfixed}
 use Rattle.warm_pool.proofs.Bytes.{bytes_nowhere, where_is, contents_seen, device_seen, frame_seen}
-use Rattle.warm_pool.proofs.Keeps.{pool_from, stored_honest}
+use Rattle.warm_pool.proofs.PoolLemmas.{pool_from, stored_honest}
 use Rattle.warm_pool.proofs.Loads.{contents_absent}
 use Rattle.warm_pool.proofs.ClosingLemmas.{clean_each, nth_page}
 use Rattle.warm_pool.proofs.SettleLemmas.{down_view}
-use Rattle.warm_pool.specs.declared.selection.Devices.{Devices}
-use Rattle.warm_pool.specs.declared.selection.Devices.TheVariants.{All, One, PagesFrom}
 
 -- Fixes
 

@@ -7,13 +7,13 @@ use Rattle.warm_history.specs.Histories.{history_of_entries as alone, references
 use Rattle.warm_rank.specs.Ranking.{IsBefore}
 use Rattle.warm_devices.specs.Calls.{no_calls}
 use Rattle.warm_devices.specs.Device.{DeviceState}
-use Rattle.warm_pool.specs.Frames.{FrameState, cleaned, fresh_frame}
+use Rattle.warm_frame_table.specs.Frames.{FrameState, fresh_frame}
+use Rattle.warm_frame_table.specs.FrameSteps.{cleaned, patched}
 use Rattle.warm_pool.specs.State.{PoolState}
 use Rattle.warm_pool.specs.View.{view_of, PoolView, contents_at, frame_at, unfixed_pages}
 use Rattle.warm_pool.specs.WritingBack.{cleaned_to}
 use Rattle.warm_pool.specs.WritingSome.{IsNextDirty, NoneDirty}
 use Rattle.warm_pool.specs.Pinning.{HasNoFreeFrame, IsFrameToLoad, unpinned}
-use Rattle.warm_pool.specs.PageBytes.{patched}
 use Rattle.warm_pool.specs.Retiring.{emptied}
 
 -- the page 0:n

@@ -7,21 +7,21 @@ use Rattle.std.proofs.lemmas.List.{length-map, set-get_or}
 use Rattle.warm_stamps.specs.declared.PageId.{PageId}
 use Rattle.warm_history.specs.Histories.{HistoryView}
 use Rattle.warm_devices.specs.Device.{DeviceState}
-use Rattle.warm_pool.specs.Frames.{FrameState, FramesState, nth_frame, fresh_frame, cleaned, vacated}
-use Rattle.warm_pool.specs.frame_table.FrameSteps.{changed_at}
+use Rattle.warm_frame_table.specs.declared.selection.Devices.{Devices}
+use Rattle.warm_frame_table.specs.declared.selection.Devices.TheVariants.{PagesFrom}
+use Rattle.warm_frame_table.specs.Frames.{FrameState, FramesState, nth_frame, fresh_frame}
+use Rattle.warm_frame_table.specs.FrameSteps.{cleaned, vacated, changed_at}
+use Rattle.warm_frame_table.specs.Selection.{selects, is_from, vacate_if, vacated_selected}
 use Rattle.warm_pool.specs.State.{PoolState, IsPool, RankedBy, nth_device}
 use Rattle.warm_pool.specs.View.{stored, view_of, is_page, bytes_in, HasPage}
-use Rattle.warm_pool.specs.WritingBack.{selects, is_from, clean_if, cleaned_selected}
-use Rattle.warm_pool.specs.Retiring.{vacate_if, vacated_selected}
+use Rattle.warm_pool.specs.WritingBack.{clean_if, cleaned_selected}
 use Rattle.warm_pool.specs.steps.Retiring.{IsFixedIn, AreUnfixed}
 use Rattle.warm_pool.specs.Forgetting.{AreUnfixedFrom, Forgets, IsFixedFrom}
 use Rattle.warm_pool.specs.steps.Forgetting.{selected_cleaned}
 use Rattle.warm_pool.proofs.Bytes.{bytes_nowhere, contents_seen, device_seen, frame_seen, page_found}
-use Rattle.warm_pool.proofs.Keeps.{pool_from}
+use Rattle.warm_pool.proofs.PoolLemmas.{pool_from}
 use Rattle.warm_pool.proofs.ClosingLemmas.{clean_more}
 use Rattle.warm_pool.proofs.EmptyLemmas.{nth_vacated, vacated_pool, vacated_ranked, becomes_empty}
-use Rattle.warm_pool.specs.declared.selection.Devices.{Devices}
-use Rattle.warm_pool.specs.declared.selection.Devices.TheVariants.{PagesFrom}
 
 -- Frames that were marked clean
 

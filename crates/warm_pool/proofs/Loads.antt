@@ -7,12 +7,12 @@ use Rattle.std.proofs.lemmas.List.{length-map, get_or-set_same, get_or-set_other
 use Rattle.warm_stamps.specs.declared.PageId.{PageId}
 use Rattle.warm_devices.specs.Device.{page_at}
 use Rattle.warm_devices.specs.declared.fault.DeviceFault.{DeviceFault}
-use Rattle.warm_pool.specs.Frames.{FrameState, nth_frame, fresh_frame}
+use Rattle.warm_frame_table.specs.Frames.{FrameState, nth_frame, fresh_frame}
 use Rattle.warm_pool.specs.State.{PoolState, IsPool, IsNowhere, nth_device}
 use Rattle.warm_pool.specs.View.{stored, bytes_of, device_view, frame_view, view_of, contents_at, IsResident}
-use Rattle.warm_pool.specs.Keeping.{KeepsContents}
+use Rattle.warm_pool.specs.Unchanged.{KeepsContents}
 use Rattle.warm_pool.proofs.Bytes.{where_is, bytes_held, bytes_nowhere, contents_seen, contents_beyond, device_there, frame_seen, device_seen, nowhere_seen}
-use Rattle.warm_pool.proofs.Keeps.{Fits, set_keeps_pool, stored_honest}
+use Rattle.warm_pool.proofs.PoolLemmas.{Fits, set_keeps_pool, stored_honest}
 
 -- the outcome of a call, from a test of it
 pub ok_if_no_err : {E : Type 0} (r : Result (Unit {0}) E) → false ≡ is_err r → r ≡ Ok tt

@@ -3,15 +3,16 @@ use Rattle.std.proofs.Common.{◌≡◌, ℕ, ◌<◌, true, false, List, length
 use Rattle.std.proofs.lemmas.Option.{same_Some}
 use Rattle.warm_stamps.specs.declared.PageId.{PageId}
 use Rattle.warm_devices.specs.declared.fault.DeviceFault.{DeviceFault}
-use Rattle.warm_pool.specs.Frames.{FrameState, nth_frame, cleaned}
-use Rattle.warm_pool.specs.frame_table.PageTable.{IsPlaceOf}
+use Rattle.warm_frame_table.specs.Frames.{FrameState, nth_frame}
+use Rattle.warm_frame_table.specs.FrameSteps.{cleaned}
+use Rattle.warm_frame_table.specs.Places.{IsPlaceOf}
 use Rattle.warm_pool.specs.State.{PoolState, IsPool, IsNowhere, RankedBy}
 use Rattle.warm_pool.specs.View.{view_of}
-use Rattle.warm_pool.specs.Keeping.{FailsAt, KeepsRanks}
+use Rattle.warm_pool.specs.Unchanged.{FailsAt, KeepsRanks}
 use Rattle.warm_pool.specs.DeviceCalls.{PageWrite}
 use Rattle.warm_pool.specs.steps.WritingBack.{Cleans, CleanFails, WritesFrame}
 use Rattle.warm_pool.specs.WritingSome.{CleansPage, IsDirtyIn, IsNotDirty, PageFails}
-use Rattle.warm_pool.proofs.Keeps.{ranked_set}
+use Rattle.warm_pool.proofs.PoolLemmas.{ranked_set}
 use Rattle.warm_pool.proofs.PoolSteps.{found_there, found_holds}
 
 -- the spare buffer has no part in it

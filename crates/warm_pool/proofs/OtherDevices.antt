@@ -5,11 +5,11 @@ use Rattle.std.proofs.lemmas.List.{get_or-set_other}
 use Rattle.warm_stamps.specs.declared.PageId.{PageId}
 use Rattle.warm_devices.specs.Device.{DeviceState}
 use Rattle.warm_devices.specs.declared.fault.DeviceFault.{DeviceFault}
+use Rattle.warm_frame_table.specs.declared.selection.Devices.{Devices}
+use Rattle.warm_frame_table.specs.declared.selection.Devices.TheVariants.{One}
+use Rattle.warm_frame_table.specs.Selection.{is_on, selects}
 use Rattle.warm_pool.specs.DeviceCalls.{PageWrite}
 use Rattle.warm_pool.specs.State.{no_device, nth_device}
-use Rattle.warm_pool.specs.WritingBack.{is_on, selects}
-use Rattle.warm_pool.specs.declared.selection.Devices.{Devices}
-use Rattle.warm_pool.specs.declared.selection.Devices.TheVariants.{One}
 
 -- one page was written
 pub wrote_on : (old new : List DeviceState) (q : PageId) (page : Option PageId) (bytes : List ℕ)

@@ -3,9 +3,9 @@
 use Rattle.std.proofs.Common.{◌≡◌, ◌≢◌, ℕ, ◌<◌, ◌-◌, ◌^◌, length, Some, Result, Ok, Err, IfOk, IfErr, refl, ap}
 use Rattle.warm_stamps.specs.declared.PageId.{PageId}
 use Rattle.warm_history.specs.Histories.{HistoryView}
+use Rattle.warm_frame_table.specs.Frames.{nth_frame}
 use Rattle.warm_pool.specs.declared.fault.PoolFault.{PoolFault}
 use Rattle.warm_pool.specs.declared.fault.PoolFault.TheVariants.{ReadFault}
-use Rattle.warm_pool.specs.Frames.{nth_frame}
 use Rattle.warm_pool.specs.State.{PoolState, IsNowhere}
 use Rattle.warm_pool.specs.View.{view_of, HasPage}
 use Rattle.warm_pool.specs.Calls.{FlushesNone, ReadsNone}
@@ -17,9 +17,9 @@ use Rattle.warm_pool.specs.steps.Zeroing.{ZeroFails}
 use Rattle.warm_pool.specs.Outcomes.{LoadFails, PinFails, UnreadPinFails}
 use Rattle.warm_pool.proofs.Bytes.{absent_seen}
 use Rattle.warm_pool.proofs.CallLemmas.{same_none, same_unread}
-use Rattle.warm_pool.proofs.KeepingLemmas.{failed_leaves, full_leaves, unknown_leaves}
+use Rattle.warm_pool.proofs.UnchangedLemmas.{failed_leaves, full_leaves, unknown_leaves}
 use Rattle.warm_pool.proofs.Pins.{full_stays, load_refused, pin_full, pin_refused, put_refused, put_stays, same_frames, stays_by}
-use Rattle.warm_pool.proofs.Zeroes.{full_leaves_unread, full_unread, unknown_leaves_unread, unknown_unread, zero_failed, zero_leaves, zero_unread}
+use Rattle.warm_pool.proofs.ZeroingLemmas.{full_leaves_unread, full_unread, unknown_leaves_unread, unknown_unread, zero_failed, zero_leaves, zero_unread}
 
 -- what both outcomes have holds after the call
 pub either_way : {T E A : Type 0} (P : T → Type 0) (Q : E → Type 0) (r : Result T E) → IfOk r P

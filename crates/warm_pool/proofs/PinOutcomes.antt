@@ -2,22 +2,22 @@
 use Rattle.std.proofs.Common.{◌≡◌, ℕ, List, Some, None, Result, Ok, Err, IfOk, inl, inr}
 use Rattle.warm_stamps.specs.declared.PageId.{PageId}
 use Rattle.warm_history.specs.Histories.{HistoryView}
+use Rattle.warm_frame_table.specs.Frames.{nth_frame}
 use Rattle.warm_pool.specs.declared.slot.Slot.{Slot}
 use Rattle.warm_pool.specs.declared.slot.Placed.{Placed}
 use Rattle.warm_pool.specs.declared.fault.PoolFault.{PoolFault}
-use Rattle.warm_pool.specs.Frames.{nth_frame}
 use Rattle.warm_pool.specs.State.{PoolState, IsPool}
 use Rattle.warm_pool.specs.View.{view_of, HasPage, Holds}
-use Rattle.warm_pool.specs.Keeping.{KeepsBytes, KeepsOthers}
+use Rattle.warm_pool.specs.Unchanged.{KeepsBytes, KeepsOthers}
 use Rattle.warm_pool.specs.Pinning.{AddsFix}
 use Rattle.warm_pool.specs.steps.Pinning.{PutsPlaced}
 use Rattle.warm_pool.specs.steps.Zeroing.{FixesZeros}
 use Rattle.warm_pool.specs.Outcomes.{FillsPage, LoadsPlaced, PinsPlaced, ZeroesPage}
-use Rattle.warm_pool.proofs.Fills.{stays_filled}
-use Rattle.warm_pool.proofs.KeepingLemmas.{stays_in_frame}
+use Rattle.warm_pool.proofs.FillingLemmas.{stays_filled}
+use Rattle.warm_pool.proofs.UnchangedLemmas.{stays_in_frame}
 use Rattle.warm_pool.proofs.Pins.{puts_holds}
 use Rattle.warm_pool.proofs.PlacedLemmas.{placed_fixed, placed_loaded}
-use Rattle.warm_pool.proofs.Zeroes.{fixed_takes}
+use Rattle.warm_pool.proofs.ZeroingLemmas.{fixed_takes}
 
 -- a page that was put into a frame
 module _ {s : PoolState} (pool : IsPool s) (h : HistoryView) (t : PoolState) (p : PageId)

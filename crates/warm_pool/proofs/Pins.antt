@@ -6,18 +6,18 @@ use Rattle.warm_stamps.specs.declared.PageId.{PageId}
 use Rattle.warm_history.specs.Histories.{HistoryView, hist, references_of}
 use Rattle.warm_rank.specs.declared.RankKey.{RankKey}
 use Rattle.warm_rank.specs.Keys.{rank_key}
+use Rattle.warm_frame_table.specs.Frames.{FrameState, nth_frame, fresh_frame}
 use Rattle.warm_pool.specs.declared.slot.Slot.{Slot}
 use Rattle.warm_pool.specs.declared.fault.PoolFault.{PoolFault}
 use Rattle.warm_pool.specs.declared.fault.PoolFault.TheVariants.{NoDevice, NoPage, AllFixed, ReadFault, WriteBack, FixesFull}
 use Rattle.warm_devices.specs.Device.{DeviceState}
-use Rattle.warm_pool.specs.Frames.{FrameState, nth_frame, fresh_frame}
 use Rattle.warm_pool.specs.State.{PoolState, RankedBy, IsNowhere}
 use Rattle.warm_pool.specs.View.{frame_view, view_of, PoolView, FrameView, frame_at, HasPage, IsAbsent, Holds}
-use Rattle.warm_pool.specs.Keeping.{SameButFailures}
+use Rattle.warm_pool.specs.Unchanged.{SameButFailures}
 use Rattle.warm_pool.specs.Pinning.{IsFrameToLoad, PutsIn, PutRefused, LoadRefused, PinRefused, AddsFix}
 use Rattle.warm_pool.specs.steps.Pinning.{LoadsInto, FetchFails, current_slot}
 use Rattle.warm_pool.proofs.Bytes.{frame_seen, absent_seen}
-use Rattle.warm_pool.proofs.Keeps.{ranked_set}
+use Rattle.warm_pool.proofs.PoolLemmas.{ranked_set}
 use Rattle.warm_pool.proofs.PoolSteps.{slot_seen}
 use Rattle.warm_pool.proofs.FlushLemmas.{if_err}
 

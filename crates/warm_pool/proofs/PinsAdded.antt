@@ -10,9 +10,9 @@ use Rattle.warm_history.specs.Histories.{references_of}
 use Rattle.warm_rank.specs.Ranking.{IsBefore, IsVictim}
 use Rattle.warm_rank.specs.Laws.{pages_in}
 use Rattle.warm_rank.proofs.EvictionLemmas.{eviction_is_order}
+use Rattle.warm_frame_table.proofs.ListLemmas.{at_set}
 use Rattle.warm_pool.specs.View.{FrameView, PoolView, frame_at, is_page, unfixed_page, unfixed_pages}
 use Rattle.warm_pool.specs.Laws.{AddsPins, PinAddsPins, MorePinsKeepVictim, MorePinsKeepFrame}
-use Rattle.warm_pool.proofs.Slots.{at_set}
 use Rattle.warm_pool.proofs.Bytes.{page_found, found_page}
 
 -- a frame without a page

@@ -12,8 +12,8 @@ use Rattle.warm_rank.specs.Ranking.{IsVictim}
 use Rattle.warm_rank.specs.Laws.{keys_over}
 use Rattle.warm_rank.specs.Slots.{IsLeast}
 use Rattle.warm_rank.proofs.SlotLemmas.{least_key_is_victim}
-use Rattle.warm_pool.specs.Frames.{FrameState, nth_frame, fresh_frame, eviction_key}
-use Rattle.warm_pool.specs.frame_table.PageTable.{IsPlaceOf, IsFirstFree}
+use Rattle.warm_frame_table.specs.Frames.{FrameState, nth_frame, fresh_frame, eviction_key}
+use Rattle.warm_frame_table.specs.Places.{IsPlaceOf, IsFirstFree}
 use Rattle.warm_pool.specs.State.{PoolState, IsPool, RankedBy, IsNowhere, nth_device}
 use Rattle.warm_pool.specs.View.{frame_view, device_view, view_of, device_at, frame_at, HasPage, IsResident, unfixed_page, unfixed_pages}
 use Rattle.warm_pool.specs.declared.slot.Slot.{Slot}

@@ -6,27 +6,28 @@ use Rattle.std.proofs.lemmas.List.{length-map, length-set, map-set}
 use Rattle.warm_stamps.specs.declared.PageId.{PageId}
 use Rattle.warm_history.specs.Histories.{HistoryView}
 use Rattle.warm_devices.specs.Device.{DeviceState, SameShape, page_at}
-use Rattle.warm_pool.specs.Frames.{FrameState, FramesState, nth_frame, vacated}
+use Rattle.warm_frame_table.specs.declared.selection.Devices.{Devices}
+use Rattle.warm_frame_table.specs.declared.selection.Devices.TheVariants.{One}
+use Rattle.warm_frame_table.specs.Frames.{FrameState, FramesState, nth_frame}
+use Rattle.warm_frame_table.specs.FrameSteps.{vacated}
+use Rattle.warm_frame_table.specs.Selection.{is_on, vacate_if, vacated_selected, AreClean}
+use Rattle.warm_frame_table.proofs.ListLemmas.{at_set}
 use Rattle.warm_pool.specs.State.{PoolState, IsPool, RankedBy, nth_device, no_device}
 use Rattle.warm_pool.specs.View.{stored, view_of, frame_view, device_view, is_page, bytes_in, FrameView, HasPage, contents_at}
-use Rattle.warm_pool.specs.Keeping.{FailsAt}
-use Rattle.warm_pool.specs.WritingBack.{is_on, KeptDevices, WritesBack, cleaned_selected}
+use Rattle.warm_pool.specs.Unchanged.{FailsAt}
+use Rattle.warm_pool.specs.WritingBack.{KeptDevices, WritesBack, cleaned_selected}
 use Rattle.warm_pool.specs.WritingSome.{KeepsOtherDevices}
-use Rattle.warm_pool.specs.Retiring.{Retired, MayRetire, IsFixedOn, emptied, KeepsElsewhere, retired, vacate_if, vacated_selected}
-use Rattle.warm_pool.specs.steps.Retiring.{IsFixedIn, AreUnfixed, AreClean, PreparesRetire}
+use Rattle.warm_pool.specs.Retiring.{Retired, MayRetire, IsFixedOn, emptied, KeepsElsewhere, retired}
+use Rattle.warm_pool.specs.steps.Retiring.{IsFixedIn, AreUnfixed, PreparesRetire}
 use Rattle.warm_pool.specs.steps.Flushes.{IsFlushed, FlushFails}
 use Rattle.warm_pool.proofs.FlushLemmas.{same_shape}
-use Rattle.warm_pool.proofs.Slots.{at_set}
 use Rattle.warm_pool.proofs.DeviceSteps.{failures_kept, failures_grown}
 use Rattle.warm_pool.proofs.Bytes.{bytes_nowhere, contents_seen, device_seen, frame_seen, page_found}
-use Rattle.warm_pool.proofs.Keeps.{pool_from, view_of_kept}
+use Rattle.warm_pool.proofs.PoolLemmas.{pool_from, view_of_kept}
 use Rattle.warm_pool.proofs.SettleLemmas.{AreAlike, counts, alike_kept, down_view, flush_down, flush_fails_at}
-use Rattle.warm_pool.proofs.ClosingLemmas.{nth_other}
+use Rattle.warm_pool.proofs.ClosingLemmas.{nth_other, clean_to}
 use Rattle.warm_pool.proofs.OtherDevices.{flushed_others}
-use Rattle.warm_pool.proofs.frame_table.VacateLemmas.{clean_to}
 use Rattle.warm_pool.proofs.EmptyLemmas.{nth_vacated, vacated_pool, vacated_ranked, unfixed_to}
-use Rattle.warm_pool.specs.declared.selection.Devices.{Devices}
-use Rattle.warm_pool.specs.declared.selection.Devices.TheVariants.{One}
 
 -- One device replaced or flushed
 

@@ -9,19 +9,21 @@ use Rattle.warm_stamps.specs.declared.PageId.{PageId}
 use Rattle.warm_history.specs.Histories.{HistoryView, hist, references_of}
 use Rattle.warm_rank.specs.Keys.{rank_key}
 use Rattle.warm_devices.specs.Device.{DeviceState, SameShape, one_more, page_at}
-use Rattle.warm_pool.specs.Frames.{FrameState, nth_frame, cleaned}
+use Rattle.warm_frame_table.specs.declared.selection.Devices.{Devices}
+use Rattle.warm_frame_table.specs.declared.selection.Devices.TheVariants.{All}
+use Rattle.warm_frame_table.specs.Frames.{FrameState, nth_frame}
+use Rattle.warm_frame_table.specs.FrameSteps.{cleaned}
+use Rattle.warm_frame_table.specs.Selection.{selects}
+use Rattle.warm_frame_table.proofs.ListLemmas.{at_set, same_maps}
 use Rattle.warm_pool.specs.State.{PoolState, IsSettled, nth_device, no_device}
 use Rattle.warm_pool.specs.View.{stored, view_of, frame_view, is_page, bytes_in, PoolView, FrameView}
-use Rattle.warm_pool.specs.Keeping.{FailsAt}
-use Rattle.warm_pool.specs.WritingBack.{WriteBackFails, KeptDevices, WritesBack, clean_if, cleaned_selected, selects}
+use Rattle.warm_pool.specs.Unchanged.{FailsAt}
+use Rattle.warm_pool.specs.WritingBack.{WriteBackFails, KeptDevices, WritesBack, clean_if, cleaned_selected}
 use Rattle.warm_pool.specs.steps.Flushes.{FlushedTo, FlushStops, NoneWaits}
 use Rattle.warm_pool.proofs.FlushLemmas.{same_shape}
 use Rattle.warm_pool.proofs.ClosingLemmas.{clean_each, nth_page, kept_both}
-use Rattle.warm_pool.proofs.Slots.{at_set, same_maps}
 use Rattle.warm_pool.proofs.Bytes.{contents_same, device_seen}
-use Rattle.warm_pool.proofs.Keeps.{view_of_kept}
-use Rattle.warm_pool.specs.declared.selection.Devices.{Devices}
-use Rattle.warm_pool.specs.declared.selection.Devices.TheVariants.{All}
+use Rattle.warm_pool.proofs.PoolLemmas.{view_of_kept}
 
 -- Frames that may have been cleaned
 

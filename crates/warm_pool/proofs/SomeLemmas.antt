@@ -1,38 +1,20 @@
 -- Some dirty pages are written back, from the first frame on.
-use Rattle.std.proofs.Common.{◌≡◌, ℕ, zero, suc, ◌+◌, ◌-◌, ◌<◌, ◌≤◌, cond, Bool, true, false, List, [], ◌∷◌, length, take, Option, Some, None, refl, sym, ◌∙◌, ap, subst, arith, inl, inr}
+use Rattle.std.proofs.Common.{◌≡◌, ℕ, suc, ◌+◌, ◌-◌, ◌<◌, ◌≤◌, cond, Bool, true, false, length, take, Option, Some, None, refl, sym, ◌∙◌, ap, subst, arith, inl, inr}
 use Rattle.std.proofs.lemmas.Bool.{cases_eq, ne_eqb, eq-eqb}
 use Rattle.std.proofs.lemmas.Option.{same_Some}
-use Rattle.warm_pool.specs.Frames.{FrameState, nth_frame}
+use Rattle.warm_frame_table.specs.declared.selection.Devices.TheVariants.{All, One}
+use Rattle.warm_frame_table.specs.Frames.{nth_frame, one_if, dirty_count}
+use Rattle.warm_frame_table.proofs.CountLemmas.{count_more}
 use Rattle.warm_pool.specs.State.{PoolState, nth_device}
 use Rattle.warm_pool.specs.View.{view_of}
-use Rattle.warm_pool.specs.Keeping.{FailsAt, KeepsRanks}
+use Rattle.warm_pool.specs.Unchanged.{FailsAt, KeepsRanks}
 use Rattle.warm_pool.specs.WritingBack.{WritesBack, cleaned_selected}
 use Rattle.warm_pool.specs.steps.WritingBack.{CleanFails, WritesBackAll}
 use Rattle.warm_pool.specs.Calls.{FlushesNone}
-use Rattle.warm_pool.specs.WritingSome.{one_if, dirty_count, CleansFirst, SomeFails, room_after, IsSettledOn}
-use Rattle.warm_pool.proofs.ClosingLemmas.{nth_rest}
+use Rattle.warm_pool.specs.WritingSome.{CleansFirst, SomeFails, room_after, IsSettledOn}
+use Rattle.warm_pool.proofs.ClosingLemmas.{nth_rest, clean_to}
 use Rattle.warm_pool.proofs.FlushLemmas.{same_shape}
 use Rattle.warm_pool.proofs.SettleLemmas.{down_view, ranked_to}
-use Rattle.warm_pool.proofs.frame_table.VacateLemmas.{clean_to}
-use Rattle.warm_pool.specs.declared.selection.Devices.TheVariants.{All, One}
-
--- one frame more
-pub count_more : (n : ℕ) (frames : List FrameState) → n < length frames
-    → dirty_count (take (suc n) frames)
-    ≡ dirty_count (take n frames) + one_if (nth_frame frames n).dirty
-count_more n [] lt = absurd (omega arith)
-count_more zero (f ∷ frames) lt = omega arith
-count_more (suc n) (f ∷ frames) lt = let rest = count_more n frames (omega arith) in omega (arith, rest)
-
-pub one_most : (dirty : Bool) → one_if dirty ≤ 1
-one_most true = omega arith
-one_most false = omega arith
-
-pub count_most : (n : ℕ) (frames : List FrameState) → dirty_count (take n frames) ≤ n
-count_most zero frames = omega arith
-count_most (suc n) [] = omega arith
-count_most (suc n) (f ∷ frames) =
-    let rest = count_most n frames in let one = one_most f.dirty in omega (arith, rest, one)
 
 -- what is left of the room after a frame
 abbrev room_if : Bool → ℕ → Option ℕ

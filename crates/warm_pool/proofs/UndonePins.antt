@@ -3,21 +3,22 @@ use Rattle.std.proofs.Common.{◌≡◌, ◌≢◌, ℕ, ◌+◌, ◌-◌, ◌^�
 use Rattle.std.proofs.lemmas.List.{get_or-set_same, get_or-set_other, length-set, set-set, set-get_or}
 use Rattle.warm_stamps.specs.declared.PageId.{PageId}
 use Rattle.warm_history.specs.Histories.{HistoryView}
+use Rattle.warm_frame_table.specs.Frames.{FrameState, nth_frame, fresh_frame}
+use Rattle.warm_frame_table.specs.FrameSteps.{fixed}
+use Rattle.warm_frame_table.specs.Lending.{relent}
+use Rattle.warm_frame_table.proofs.ListLemmas.{at_set}
 use Rattle.warm_pool.specs.declared.slot.Slot.{Slot}
-use Rattle.warm_pool.specs.FrameSteps.{fixed}
-use Rattle.warm_pool.specs.Frames.{FrameState, nth_frame, fresh_frame}
-use Rattle.warm_pool.specs.Keeping.{KeepsBytes}
-use Rattle.warm_pool.specs.Lending.{relent, relent_pool}
+use Rattle.warm_pool.specs.Unchanged.{KeepsBytes}
+use Rattle.warm_pool.specs.Lending.{relent_pool}
 use Rattle.warm_pool.specs.PageBytes.{IsLent}
 use Rattle.warm_pool.specs.Pinning.{AddsFix, CanPinAgain, Pinned, TakesFrame, unpinned}
 use Rattle.warm_pool.specs.State.{PoolState, IsPool}
 use Rattle.warm_pool.specs.View.{FrameView, PoolView, contents_at, frame_at, view_of}
-use Rattle.warm_pool.proofs.Keeps.{alike_fits, alike_fixes, seen_fixed, set_keeps_pool, view-set}
-use Rattle.warm_pool.proofs.KeepingLemmas.{stays_in_frame}
-use Rattle.warm_pool.proofs.Lents.{lent_pool}
+use Rattle.warm_pool.proofs.PoolLemmas.{alike_fits, alike_fixes, seen_fixed, set_keeps_pool, view-set}
+use Rattle.warm_pool.proofs.UnchangedLemmas.{stays_in_frame}
+use Rattle.warm_pool.proofs.LendingLemmas.{lent_pool}
 use Rattle.warm_pool.proofs.PinsAdded.{no_frame}
 use Rattle.warm_pool.proofs.PoolSteps.{seen_fixes, seen_generation, seen_has, seen_page, seen_there}
-use Rattle.warm_pool.proofs.Slots.{at_set}
 
 -- the pool with one more pin of the page in this frame
 abbrev pub pinned_once : PoolState → ℕ → PoolState

@@ -7,13 +7,14 @@ use Rattle.std.proofs.Math.ListN.{get_or-map as mapped}
 use Rattle.warm_devices.specs.Device.{DeviceState, CountsFault, page_at, one_more}
 use Rattle.warm_devices.specs.declared.fault.DeviceFault.TheVariants.{Write}
 use Rattle.warm_devices.specs.declared.fault.DeviceFault.{DeviceFault}
-use Rattle.warm_pool.specs.Frames.{FrameState, FramesState, nth_frame, fresh_frame, cleaned}
+use Rattle.warm_frame_table.specs.Frames.{FrameState, FramesState, nth_frame, fresh_frame}
+use Rattle.warm_frame_table.specs.FrameSteps.{cleaned}
 use Rattle.warm_pool.specs.State.{PoolState, IsPool, no_device, nth_device}
 use Rattle.warm_pool.specs.View.{frame_view, view_of, PoolView, FrameView}
 use Rattle.warm_pool.specs.WritingBack.{KeptDevices}
 use Rattle.warm_pool.specs.steps.WritingBack.{Cleans, CleanFails, WritesFrame}
 use Rattle.warm_pool.specs.DeviceCalls.{PageWrite}
-use Rattle.warm_pool.proofs.Keeps.{pool_from, set_keeps_pool, view-set, devices_keep_pool, view_of_kept}
+use Rattle.warm_pool.proofs.PoolLemmas.{pool_from, set_keeps_pool, view-set, devices_keep_pool, view_of_kept}
 use Rattle.warm_pool.proofs.FlushLemmas.{same_shape, may_fail}
 use Rattle.warm_pool.proofs.DeviceSteps.{write_keeps, failures_kept, fails_at}
 use Rattle.warm_pool.proofs.Loads.{Failed, on_ok}

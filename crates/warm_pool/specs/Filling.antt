@@ -1,13 +1,13 @@
 -- Pinning a page whose bytes are given: the caller has read them from its device.
 use Rattle.std.specs.Prelude.{ℕ, ◌≡◌, false, IsTrue, List}
 use Rattle.warm_stamps.specs.declared.PageId.{PageId}
+use Rattle.warm_frame_table.specs.Frames.{nth_frame}
 use Rattle.warm_pool.specs.declared.slot.Slot.{Slot}
-use Rattle.warm_pool.specs.Frames.{nth_frame}
 use Rattle.warm_pool.specs.State.{PoolState}
 use Rattle.warm_pool.specs.View.{PoolView, device_at, contents_at, view_of, HasPage, IsResident}
 use Rattle.warm_pool.specs.View.{IsAbsent}
 use Rattle.warm_pool.specs.Calls.{FlushesNone, ReadsNone}
-use Rattle.warm_pool.specs.Keeping.{KeepsBytes, KeepsOthers}
+use Rattle.warm_pool.specs.Unchanged.{KeepsBytes, KeepsOthers}
 use Rattle.warm_pool.specs.WritingBack.{WaitsFor}
 
 -- These are the bytes that an honest device has of the page. Nothing is asked of the bytes of a

@@ -1,13 +1,12 @@
 -- Forgetting the last pages of a device.
 use Rattle.std.specs.Prelude.{ℕ, ◌≡◌, ◌≢◌, ◌⊎◌, ◌<◌, ◌≤◌, IsTrue, length}
 use Rattle.warm_stamps.specs.declared.PageId.{PageId}
+use Rattle.warm_frame_table.specs.declared.selection.Devices.TheVariants.{PagesFrom}
+use Rattle.warm_frame_table.specs.Selection.{is_from, vacated_selected}
 use Rattle.warm_pool.specs.declared.fault.PoolFault.{PoolFault}
 use Rattle.warm_pool.specs.declared.fault.PoolFault.TheVariants.{NoDevice, Fixed}
 use Rattle.warm_pool.specs.State.{PoolState}
 use Rattle.warm_pool.specs.View.{PoolView, frame_at, contents_at, stored, view_of, HasPage}
-use Rattle.warm_pool.specs.WritingBack.{is_from}
-use Rattle.warm_pool.specs.Retiring.{vacated_selected}
-use Rattle.warm_pool.specs.declared.selection.Devices.TheVariants.{PagesFrom}
 
 -- none of the pages of the device with this number and above is pinned
 abbrev pub AreUnfixedFrom : PoolView → ℕ → ℕ → Type 0

@@ -8,9 +8,9 @@ use Rattle.warm_rank.specs.Ranking.{IsVictim}
 use Rattle.warm_devices.specs.Device.{DeviceState}
 use Rattle.warm_pool.specs.declared.slot.Slot.{Slot}
 use Rattle.warm_pool.specs.State.{PoolState, IsPool, RankedBy}
-use Rattle.warm_pool.specs.View.{PoolView, device_at, contents_at, view_of, frame_at, HasPage, Holds}
-use Rattle.warm_pool.specs.View.{IsResident, unfixed_pages}
-use Rattle.warm_pool.specs.Keeping.{KeepsRanks}
+use Rattle.warm_pool.specs.View.{PoolView, device_at, contents_at, view_of, frame_at, HasPage}
+use Rattle.warm_pool.specs.View.{Holds, IsResident, unfixed_pages}
+use Rattle.warm_pool.specs.Unchanged.{KeepsRanks}
 use Rattle.warm_pool.specs.PageBytes.{Written, MakesDirty}
 use Rattle.warm_pool.specs.Lending.{relent_pool}
 use Rattle.warm_pool.specs.Pinning.{AddsFix, IsFrameToLoad, Loaded, Pinned, unpinned}

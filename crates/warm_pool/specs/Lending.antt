@@ -1,19 +1,11 @@
 -- Lending the bytes of a page, to be written to.
-use Rattle.std.specs.Prelude.{ℕ, ◌++◌, true, List, length, take, drop, set}
+use Rattle.std.specs.Prelude.{ℕ, List, set}
 use Rattle.std.specs.Borrow.{Lends, MutBor, Fml, Array, RattleType, u8}
 use Rattle.warm_devices.specs.declared.device.PageDevice.{Ghosts}
-use Rattle.warm_pool.specs.Frames.{FrameState, nth_frame}
+use Rattle.warm_frame_table.specs.Frames.{nth_frame}
+use Rattle.warm_frame_table.specs.Lending.{relent}
 use Rattle.warm_pool.specs.State.{PoolState}
 use Rattle.warm_pool.specs.contracts.pool.Pool.{the_row}
-
--- As many of these bytes as there were before. What is lent keeps its length, so these are all of
--- them: where the lengths are equal, it is w.
-abbrev pub refilled : List ℕ → List ℕ → List ℕ
-refilled old w = take (length old) (w ++ drop (length w) old)
-
--- the frame, dirty, after w was left in the bytes that were lent
-abbrev pub relent : List ℕ → FrameState → FrameState
-relent w f = record f { dirty = true; bytes = refilled f.bytes w }
 
 -- the pool after w was left in the bytes of this frame
 abbrev pub relent_pool : PoolState → ℕ → List ℕ → PoolState

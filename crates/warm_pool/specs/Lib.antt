@@ -1,9 +1,7 @@
-pub mod Frames
-pub mod FrameSteps
 pub mod State
 pub mod View
-pub mod Counting
-pub mod Keeping
+pub mod Residents
+pub mod Unchanged
 pub mod Opening
 pub mod DeviceCalls
 pub mod Calls
@@ -21,5 +19,4 @@ pub mod Forgetting
 pub mod Outcomes
 pub mod Faults
 pub mod Laws
-pub mod frame_table
 pub mod steps

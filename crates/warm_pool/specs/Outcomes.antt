@@ -13,7 +13,7 @@ use Rattle.warm_pool.specs.declared.fault.PoolFault.TheVariants.{Fault}
 use Rattle.warm_pool.specs.State.{PoolState, IsRankedByAll, IsSettled, RankedBy}
 use Rattle.warm_pool.specs.View.{PoolView, Holds, IsUnfixed, view_of}
 use Rattle.warm_pool.specs.Calls.{FlushesNone, FlushesOnce, ReadsNone}
-use Rattle.warm_pool.specs.Keeping.{KeepsBytes, KeepsFrames, KeepsRanks, SameButFailures}
+use Rattle.warm_pool.specs.Unchanged.{KeepsBytes, KeepsFrames, KeepsRanks, SameButFailures}
 use Rattle.warm_pool.specs.Pinning.{IsPlaced, LeavesDevices, Loaded, LoadRefused, Pinned}
 use Rattle.warm_pool.specs.Pinning.{PinRefused, TakesFrame, unpinned}
 use Rattle.warm_pool.specs.Zeroing.{LeavesUnread, PinnedZeroed, TakesZeroed, ZeroedRefused}

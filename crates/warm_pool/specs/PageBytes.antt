@@ -1,14 +1,15 @@
 -- Reading and writing the bytes of a page.
-use Rattle.std.specs.Prelude.{ℕ, ◌≡◌, ◌≢◌, ◌<◌, ◌≤◌, List, length, Some, ◌+◌, true, ◌++◌, take}
+use Rattle.std.specs.Prelude.{ℕ, ◌≡◌, ◌≢◌, ◌<◌, ◌≤◌, List, length, Some, ◌+◌, true, take}
 use Rattle.std.specs.Prelude.{drop}
 use Rattle.warm_stamps.specs.declared.PageId.{PageId}
-use Rattle.warm_pool.specs.Frames.{nth_frame}
+use Rattle.warm_frame_table.specs.Frames.{nth_frame}
+use Rattle.warm_frame_table.specs.FrameSteps.{patched}
 use Rattle.warm_pool.specs.declared.slot.Slot.{Slot}
 use Rattle.warm_pool.specs.declared.fault.PoolFault.{PoolFault}
 use Rattle.warm_pool.specs.declared.fault.PoolFault.TheVariants.{OutOfPage}
 use Rattle.warm_pool.specs.State.{PoolState}
 use Rattle.warm_pool.specs.View.{PoolView, frame_at, contents_at, HasPage}
-use Rattle.warm_pool.specs.Keeping.{KeepsOthers}
+use Rattle.warm_pool.specs.Unchanged.{KeepsOthers}
 
 -- the bytes lent are all those of the slot's page
 pub record IsLent (v : PoolView) (slot : Slot) (bytes : List ℕ) : Type 0 where
@@ -27,10 +28,6 @@ pub record IsRead (v : PoolView) (slot : Slot) (at : ℕ) (got : List ℕ) : Typ
 -- this many bytes from `at` on are not within a page, and the output buffer is unchanged
 abbrev pub ReadRefused : PoolState → ℕ → List ℕ → PoolFault → List ℕ → Type 0
 ReadRefused s at old fault new = (fault ≡ OutOfPage) × (s.page_size < at + length old) × (new ≡ old)
-
--- the bytes with these written from `at` on
-abbrev pub patched : List ℕ → ℕ → List ℕ → List ℕ
-patched old at bytes = take at old ++ bytes ++ drop (at + length bytes) old
 
 -- the bytes of the slot's page from `at` on are these, and no other byte of any page has changed
 pub record Written (old : PoolView) (slot : Slot) (at : ℕ) (put : List ℕ)

@@ -4,7 +4,7 @@ use Rattle.std.specs.Prelude.{ℕ, ◌≡◌, ◌↔◌, ◌≢◌, ◌<◌, ◌
 use Rattle.std.specs.Prelude.{None, ◌⊎◌, ◌+◌, ◌-◌, ◌^◌, true, set}
 use Rattle.warm_stamps.specs.declared.PageId.{PageId}
 use Rattle.warm_history.specs.Histories.{HistoryView, references_of}
-use Rattle.warm_pool.specs.Frames.{nth_frame}
+use Rattle.warm_frame_table.specs.Frames.{nth_frame}
 use Rattle.warm_rank.specs.Ranking.{IsVictim}
 use Rattle.warm_pool.specs.declared.slot.Slot.{Slot}
 use Rattle.warm_pool.specs.declared.slot.Placed.{Placed}
@@ -14,7 +14,7 @@ use Rattle.warm_pool.specs.declared.fault.PoolFault.TheVariants.{ReadFault, Writ
 use Rattle.warm_pool.specs.State.{PoolState, RankedBy, nth_device}
 use Rattle.warm_pool.specs.View.{PoolView, device_at, frame_at, view_of, HasPage, IsResident}
 use Rattle.warm_pool.specs.View.{IsAbsent, unfixed_pages}
-use Rattle.warm_pool.specs.Keeping.{FailsAt, KeepsContents, KeepsOthers, KeepsBytes}
+use Rattle.warm_pool.specs.Unchanged.{FailsAt, KeepsContents, KeepsOthers, KeepsBytes}
 use Rattle.warm_devices.specs.Device.{DeviceState}
 use Rattle.warm_pool.specs.Calls.{FlushesNone}
 use Rattle.warm_pool.specs.DeviceCalls.{failed_at, read_at}

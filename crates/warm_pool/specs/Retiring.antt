@@ -1,20 +1,20 @@
 -- Emptying a pool, closing it, and retiring a device: why a call is refused, its effect, and the
 -- steps of its body.
-use Rattle.std.specs.Prelude.{ℕ, ◌≡◌, ◌≢◌, ◌<◌, ◌≤◌, false, IsTrue, List, [], map, length, None}
+use Rattle.std.specs.Prelude.{ℕ, ◌≡◌, ◌≢◌, ◌<◌, ◌≤◌, false, IsTrue, [], map, length, None}
 use Rattle.std.specs.Prelude.{if◌then◌else◌, set}
 use Rattle.warm_stamps.specs.declared.PageId.{PageId}
 use Rattle.warm_devices.specs.Device.{DeviceState, page_at}
-use Rattle.warm_pool.specs.Frames.{FrameState, nth_frame, vacated}
+use Rattle.warm_frame_table.specs.declared.selection.Devices.TheVariants.{One}
+use Rattle.warm_frame_table.specs.Frames.{nth_frame}
+use Rattle.warm_frame_table.specs.Selection.{is_on, vacated_selected}
 use Rattle.warm_pool.specs.declared.fault.PoolFault.{PoolFault}
 use Rattle.warm_pool.specs.declared.fault.PoolFault.TheVariants.{SizeDiffers, NoDevice, Fixed}
 use Rattle.warm_pool.specs.declared.fault.PoolFault.TheVariants.{Fault}
 use Rattle.warm_pool.specs.State.{PoolState}
 use Rattle.warm_pool.specs.View.{FrameView, PoolView, frame_at, contents_at, device_view, view_of}
 use Rattle.warm_pool.specs.View.{HasPage, IsFixed, IsUnfixed}
-use Rattle.warm_pool.specs.Keeping.{FailsAt, KeepsContents}
-use Rattle.warm_pool.specs.WritingBack.{WriteBackFails, is_on, selects}
-use Rattle.warm_pool.specs.declared.selection.Devices.{Devices}
-use Rattle.warm_pool.specs.declared.selection.Devices.TheVariants.{One}
+use Rattle.warm_pool.specs.Unchanged.{FailsAt, KeepsContents}
+use Rattle.warm_pool.specs.WritingBack.{WriteBackFails}
 
 -- Emptying and closing
 
@@ -79,16 +79,6 @@ pub record Retired (old : PoolView) (dev : ℕ) (device : DeviceState) (new : Po
 abbrev pub KeepsElsewhere : ℕ → PoolState → PoolState → Type 0
 KeepsElsewhere dev old new = (i : ℕ) → is_on dev (nth_frame old.frames i).page ≡ false
     → nth_frame new.frames i ≡ nth_frame old.frames i
-
--- The steps of both
-
--- the frame; without its page, if that is selected
-abbrev pub vacate_if : Devices → FrameState → FrameState
-vacate_if which f = if selects which f.page then vacated f else f
-
--- the frames, with the selected ones vacated
-abbrev pub vacated_selected : Devices → List FrameState → List FrameState
-vacated_selected which frames = map (vacate_if which) frames
 
 -- the pool after another device has replaced device dev
 abbrev pub retired : PoolState → ℕ → DeviceState → PoolState

@@ -4,7 +4,7 @@ use Rattle.std.specs.Prelude.{Option, Some, None, slice_index_or, if◌then◌el
 use Rattle.std.specs.List.{range_with_len}
 use Rattle.warm_stamps.specs.declared.PageId.{PageId}
 use Rattle.warm_devices.specs.Device.{DeviceState, page_at}
-use Rattle.warm_pool.specs.Frames.{FrameState}
+use Rattle.warm_frame_table.specs.Frames.{FrameState}
 use Rattle.warm_rank.specs.Laws.{pages_in}
 use Rattle.warm_pool.specs.declared.slot.Slot.{Slot}
 use Rattle.warm_pool.specs.State.{PoolState, nth_device}

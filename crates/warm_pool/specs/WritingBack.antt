@@ -1,15 +1,15 @@
 -- Writing back: the page of one frame, those of the selected frames, and those of all frames.
-use Rattle.std.specs.Prelude.{ℕ, ◌≡◌, ◌<◌, ◌≤◌, ◌==◌, Bool, false, IsTrue, List, map, length}
-use Rattle.std.specs.Prelude.{Option, Some, None, if◌then◌else◌, true, ◌++◌, take, drop, ◌&&◌}
-use Rattle.std.specs.Prelude.{nat_le}
+use Rattle.std.specs.Prelude.{ℕ, ◌≡◌, ◌<◌, ◌≤◌, false, IsTrue, List, map, length}
+use Rattle.std.specs.Prelude.{Some, if◌then◌else◌, true, ◌++◌, take, drop}
 use Rattle.warm_stamps.specs.declared.PageId.{PageId}
 use Rattle.warm_devices.specs.Device.{DeviceState, SameShape}
-use Rattle.warm_pool.specs.Frames.{FrameState, nth_frame, cleaned}
+use Rattle.warm_frame_table.specs.declared.selection.Devices.{Devices}
+use Rattle.warm_frame_table.specs.Frames.{FrameState, nth_frame}
+use Rattle.warm_frame_table.specs.FrameSteps.{cleaned}
+use Rattle.warm_frame_table.specs.Selection.{selects}
 use Rattle.warm_pool.specs.State.{PoolState, nth_device, IsNowhere}
 use Rattle.warm_pool.specs.View.{stored, view_of}
-use Rattle.warm_pool.specs.Keeping.{FailsAt}
-use Rattle.warm_pool.specs.declared.selection.Devices.{Devices}
-use Rattle.warm_pool.specs.declared.selection.Devices.TheVariants.{All, One, PagesFrom}
+use Rattle.warm_pool.specs.Unchanged.{FailsAt}
 
 -- All pages
 
@@ -49,22 +49,6 @@ WaitsFor old i devices =
     → (nth_device devices p.dev).waiting ≡ true
 
 -- The selected frames: those of one device, of its last pages, or all
-
--- the page is of this device
-abbrev pub is_on : ℕ → Option PageId → Bool
-is_on dev None = false
-is_on dev (Some p) = p.dev == dev
-
--- the page is of this device, and has this number or a higher one
-abbrev pub is_from : ℕ → ℕ → Option PageId → Bool
-is_from dev first None = false
-is_from dev first (Some p) = (p.dev == dev) && nat_le first p.no
-
--- whether a frame with this page is selected: all frames are, where no device is named
-abbrev pub selects : Devices → Option PageId → Bool
-selects All page = true
-selects (One dev) page = is_on dev page
-selects (PagesFrom dev first) page = is_from dev first page
 
 -- the frame; clean, if its page is selected
 abbrev pub clean_if : Devices → FrameState → FrameState

@@ -1,9 +1,12 @@
 -- Writing back some pages, one page, and those of one device.
-use Rattle.std.specs.Prelude.{ℕ, ◌≡◌, ◌≢◌, ◌<◌, ◌≤◌, ◌+◌, ◌-◌, ◌==◌, Bool, true, false, IsTrue, List, [], ◌∷◌}
+use Rattle.std.specs.Prelude.{ℕ, ◌≡◌, ◌≢◌, ◌<◌, ◌≤◌, ◌-◌, ◌==◌, Bool, true, false, IsTrue, List}
 use Rattle.std.specs.Prelude.{length, take, set, Option, Some, None, Ok, Err, if◌then◌else◌, ◌⊎◌}
 use Rattle.warm_stamps.specs.declared.PageId.{PageId}
 use Rattle.warm_devices.specs.declared.fault.DeviceFault.TheVariants.{Write}
-use Rattle.warm_pool.specs.Frames.{FrameState, nth_frame, cleaned}
+use Rattle.warm_frame_table.specs.declared.selection.Devices.TheVariants.{One}
+use Rattle.warm_frame_table.specs.Frames.{FrameState, nth_frame, dirty_count}
+use Rattle.warm_frame_table.specs.FrameSteps.{cleaned}
+use Rattle.warm_frame_table.specs.Selection.{is_on}
 use Rattle.warm_pool.specs.declared.dirty.DirtyFrame.{DirtyFrame}
 use Rattle.warm_pool.specs.declared.fault.PoolFault.{PoolFault}
 use Rattle.warm_pool.specs.declared.fault.PoolFault.TheVariants.{NoDevice, Fault}
@@ -11,21 +14,10 @@ use Rattle.warm_pool.specs.State.{PoolState, nth_device}
 use Rattle.warm_pool.specs.View.{view_of}
 use Rattle.warm_pool.specs.Calls.{FlushesNone}
 use Rattle.warm_pool.specs.DeviceCalls.{PageWrite}
-use Rattle.warm_pool.specs.Keeping.{FailsAt}
-use Rattle.warm_pool.specs.WritingBack.{StopsAt, WritesBack, cleaned_selected, cleaned_to, is_on}
-use Rattle.warm_pool.specs.declared.selection.Devices.TheVariants.{One}
+use Rattle.warm_pool.specs.Unchanged.{FailsAt}
+use Rattle.warm_pool.specs.WritingBack.{StopsAt, WritesBack, cleaned_selected, cleaned_to}
 
 -- The dirty pages
-
--- 1 if true, else 0
-abbrev pub one_if : Bool → ℕ
-one_if true = 1
-one_if false = 0
-
--- how many of these frames are dirty
-abbrev pub dirty_count : List FrameState → ℕ
-dirty_count [] = 0
-dirty_count (f ∷ frames) = one_if f.dirty + dirty_count frames
 
 -- a frame has the page, and the page is dirty
 pub record IsDirtyIn (s : PoolState) (page : PageId) (frame : ℕ) : Type 0 where

@@ -3,15 +3,15 @@ use Rattle.std.specs.Prelude.{◌≡◌, ◌≢◌, ◌⊎◌, ◌<◌, ◌+◌,
 use Rattle.std.specs.Prelude.{replicate, set, Some}
 use Rattle.warm_stamps.specs.declared.PageId.{PageId}
 use Rattle.warm_history.specs.Histories.{HistoryView}
+use Rattle.warm_frame_table.specs.Frames.{nth_frame}
 use Rattle.warm_pool.specs.declared.slot.Slot.{Slot}
 use Rattle.warm_pool.specs.declared.fault.PoolFault.{PoolFault}
 use Rattle.warm_pool.specs.declared.fault.PoolFault.TheVariants.{ReadFault, WriteBack}
-use Rattle.warm_pool.specs.Frames.{nth_frame}
 use Rattle.warm_pool.specs.State.{PoolState}
 use Rattle.warm_pool.specs.View.{PoolView, device_at, frame_at, contents_at, view_of, HasPage}
 use Rattle.warm_pool.specs.View.{IsResident, IsAbsent}
 use Rattle.warm_pool.specs.Calls.{FlushesNone}
-use Rattle.warm_pool.specs.Keeping.{KeepsOthers}
+use Rattle.warm_pool.specs.Unchanged.{KeepsOthers}
 use Rattle.warm_pool.specs.WritingBack.{WaitsFor}
 use Rattle.warm_pool.specs.PageBytes.{Written}
 use Rattle.warm_pool.specs.Pinning.{AddsFix, IsFrameToLoad, PinRefused, IsUnwritten}

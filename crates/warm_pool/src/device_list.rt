@@ -1,11 +1,21 @@
-//! Calls of one of a pool's devices, and their effect on the device list. Each call is counted.
+//! The devices of a pool, and calls of one of them. Each call is counted.
 ghost use Rattle.std.specs.Prelude.{◌≡◌, ◌↔◌, ◌<◌, IsTrue, map, length};
 ghost use Rattle.warm_pool.specs.State.{nth_device};
 ghost use Rattle.warm_pool.specs.DeviceCalls.{AreOfSize, PageRead, PageWrite};
 
+use crate::pool::Pool;
 use crate::tally::Tally;
 use warm_devices::{DeviceFault, PageDevice};
 use warm_stamps::PageId;
+
+impl<D: PageDevice> Pool<D> {
+    /// The devices, by their numbers.
+    pub fn devices(&self) -> &[D]
+        ensures { map D.state result.now ≡ self.now.devices }
+    {
+        &self.devices
+    }
+}
 
 /// Reads one page of one of the devices.
 pub(crate) fn read_page<D: PageDevice>(

@@ -1,8 +1,7 @@
 //! Which pages of a pool are dirty, and in which frames.
 ghost use Rattle.std.specs.Prelude.{◌≡◌, ◌↔◌, ◌<◌, length, IsTrue};
-ghost use Rattle.warm_pool.specs.Frames.{nth_frame};
+ghost use Rattle.warm_frame_table.specs.Frames.{nth_frame, dirty_count};
 ghost use Rattle.warm_pool.specs.WritingSome.{IsDirty, IsDirtyPage, IsNextDirty};
-ghost use Rattle.warm_pool.specs.WritingSome.{dirty_count};
 
 use crate::pool::Pool;
 use warm_devices::PageDevice;

@@ -1,7 +1,7 @@
 //! Pinning a page whose bytes are given: the caller has read them from its device.
 ghost use Rattle.std.specs.Prelude.{◌≡◌, ◌<◌, ◌-◌, ◌^◌, length, Some, IfOk, IfErr, OnOk};
 ghost use Rattle.warm_devices.specs.Device.{GivesPage};
-ghost use Rattle.warm_pool.specs.Frames.{nth_frame};
+ghost use Rattle.warm_frame_table.specs.Frames.{nth_frame};
 ghost use Rattle.warm_pool.specs.State.{RankedBy, IsNowhere, nth_device};
 ghost use Rattle.warm_pool.specs.View.{view_of, HasPage};
 ghost use Rattle.warm_pool.specs.Calls.{FlushesNone, ReadsNone};
@@ -12,8 +12,9 @@ ghost use Rattle.warm_pool.specs.steps.Zeroing.{ZeroFails};
 ghost use Rattle.warm_pool.specs.Outcomes.{FillsPage, UnreadPinFails};
 
 use crate::fault::PoolFault;
-use crate::pool::{Pool, rank_of, write_back};
+use crate::pool::{Pool, rank_of};
 use crate::slot::Placed;
+use crate::write_back::write_back;
 use warm_devices::PageDevice;
 use warm_history::History;
 use warm_rank::RankKey;

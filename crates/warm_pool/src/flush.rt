@@ -1,11 +1,36 @@
-//! Flushing a pool's devices, and letting go of them.
-ghost use Rattle.std.specs.Prelude.{◌≡◌, ℕ, ◌<◌, length, map, set, false, OnErr, OnOk};
-ghost use Rattle.warm_pool.specs.State.{nth_device};
-ghost use Rattle.warm_pool.specs.steps.Flushes.{DeviceFlush, FlushedTo, FlushStops, NoneWaits};
+//! Flushing the devices of a pool: one of them, after its pages were written back, or all.
+ghost use Rattle.std.specs.Prelude.{◌<◌, length, map, OnOk, OnErr, IfErr};
+ghost use Rattle.warm_pool.specs.Unchanged.{KeepsRanks};
+ghost use Rattle.warm_pool.specs.Outcomes.{FlushDeviceFails, SettlesDevice};
+ghost use Rattle.warm_pool.specs.steps.Flushes.{DeviceFlush, FlushedTo, FlushStops};
 
+use crate::fault::PoolFault;
+use crate::pool::Pool;
 use crate::tally::Tally;
-use std::mem;
-use warm_devices::{DeviceFault, PageDevice, let_go};
+use warm_devices::{DeviceFault, PageDevice};
+
+impl<D: PageDevice> Pool<D> {
+    /// Writes back the dirty pages of one device, in the order of frames, and flushes it where it
+    /// is unflushed. Other devices, and the frames of their pages, are unchanged, whether the call
+    /// is refused or not.
+    ///
+    /// # Errors
+    /// In this order; each leaves pages, pin counts and contents unchanged.
+    /// - `NoDevice`: there is no device of this number. Nothing is changed.
+    /// - `Fault`: a write or the flush of the device failed, and its count of failures has
+    ///   increased. The write-backs made before it stay.
+    pub fn flush_device(&mut self, dev: u16) -> Result<(), PoolFault>
+        ensures ranked { KeepsRanks self.old self.new }
+        ensures done { OnOk result (SettlesDevice dev self.old self.new) }
+        ensures refused { IfErr result (λ why. FlushDeviceFails dev self.old why self.new) }
+    {
+        if dev as usize >= self.devices.len() {
+            return Err(PoolFault::NoDevice);
+        }
+        self.settle_device(dev).map_err(|_| PoolFault::Fault)?;
+        Ok(())
+    }
+}
 
 /// Flushes each unflushed device, in rising order, up to the first that fails.
 pub(crate) fn flush_all<D: PageDevice>(
@@ -39,23 +64,4 @@ pub(crate) fn flush_device<D: PageDevice>(
     let done = devices[at].flush();
     tally.flushed(at, done.is_ok());
     done
-}
-
-/// Drops flushed devices.
-pub(crate) fn let_all_go<D: PageDevice>(mut devices: Vec<D>)
-    requires { NoneWaits (map D.state devices.items) }
-{
-    while let Some(device) = devices.pop() {
-        let_go(device);
-    }
-}
-
-/// Replaces a device with another, and returns the old one.
-pub(crate) fn exchange<D: PageDevice>(devices: &mut Vec<D>, at: usize, device: D) -> D
-    requires there { at < length devices.old.items }
-    ensures given { D.state result ≡ nth_device (map D.state devices.old.items) at }
-    ensures put { map D.state devices.new.items
-        ≡ set (map D.state devices.old.items) at (D.state device) }
-{
-    mem::replace(&mut devices[at], device)
 }

@@ -1,18 +1,17 @@
 //! Forgetting the last pages of a device.
 ghost use Rattle.std.specs.Prelude.{◌≡◌, ◌<◌, length, OnOk, IfErr};
-ghost use Rattle.warm_pool.specs.frame_table.FrameSteps.{changed_at};
-ghost use Rattle.warm_pool.specs.Keeping.{KeepsRanks};
+ghost use Rattle.warm_frame_table.specs.FrameSteps.{changed_at};
+ghost use Rattle.warm_frame_table.specs.Selection.{vacated_selected};
+ghost use Rattle.warm_pool.specs.Unchanged.{KeepsRanks};
 ghost use Rattle.warm_pool.specs.WritingBack.{clean_if};
-ghost use Rattle.warm_pool.specs.Retiring.{vacated_selected};
 ghost use Rattle.warm_pool.specs.Forgetting.{Forgets, ForgetRefused, MayForget};
 ghost use Rattle.warm_pool.specs.steps.Forgetting.{selected_cleaned};
 
 use crate::close::is_fixed;
 use crate::fault::PoolFault;
-use crate::frame_table::frames::Frames;
 use crate::pool::Pool;
-use crate::selection::Devices;
 use warm_devices::PageDevice;
+use warm_frame_table::{Devices, Frames};
 
 impl<D: PageDevice> Pool<D> {
     /// Evicts the pages of a device with the number `from` and above, and does not write them: what

@@ -3,7 +3,7 @@
 ghost use Rattle.std.specs.Prelude.{◌≡◌, IfSome};
 ghost use Rattle.std.specs.Borrow.{sem};
 ghost use Rattle.warm_pool.specs.View.{view_of, Holds};
-ghost use Rattle.warm_pool.specs.Keeping.{KeepsRanks};
+ghost use Rattle.warm_pool.specs.Unchanged.{KeepsRanks};
 ghost use Rattle.warm_pool.specs.PageBytes.{IsLent};
 ghost use Rattle.warm_pool.specs.Lending.{LendsPage};
 ghost use Rattle.warm_pool.specs.Pinning.{CanPinAgain};

@@ -25,21 +25,21 @@
 #![tactic(auto)]
 
 mod close;
-mod counting;
+mod counts;
 mod device_list;
 mod dirty;
 mod fault;
 mod filled;
 mod flush;
 mod forget;
-mod frame_table;
 pub mod laws;
 mod lending;
 mod named;
 mod pool;
-mod selection;
+mod retire;
 mod slot;
 mod tally;
+mod write_back;
 mod write_some;
 mod zeroed;
 

@@ -3,17 +3,14 @@ ghost use Rattle.std.specs.Prelude.{◌≡◌, ◌≢◌, ◌↔◌, ◌+◌, �
 ghost use Rattle.std.specs.Prelude.{None, MatchResult, OnOk, OnErr, IfOk, IfErr, IfSome, IsTrue};
 ghost use Rattle.warm_history.specs.Histories.{HistoryView, hist, references_of};
 ghost use Rattle.warm_rank.specs.Keys.{rank_key};
-ghost use Rattle.warm_pool.specs.Frames.{nth_frame};
-ghost use Rattle.warm_pool.specs.frame_table.FrameSteps.{fresh_frames};
+ghost use Rattle.warm_frame_table.specs.Frames.{nth_frame, fresh_frames};
 ghost use Rattle.warm_pool.specs.State.{PoolState, IsPool, pool_over, RankedBy, IsNowhere};
 ghost use Rattle.warm_pool.specs.State.{nth_device, IsRankedByAll, fresh_pool};
 ghost use Rattle.warm_pool.specs.View.{view_of, HasPage, IsResident, Holds};
-ghost use Rattle.warm_pool.specs.Keeping.{KeepsRanks, KeepsBytes, KeepsOthers};
-ghost use Rattle.warm_pool.specs.Calls.{FlushesNone, ReadsNone};
+ghost use Rattle.warm_pool.specs.Unchanged.{KeepsRanks, KeepsBytes, KeepsOthers};
+ghost use Rattle.warm_pool.specs.Calls.{FlushesNone};
 ghost use Rattle.warm_pool.specs.DeviceCalls.{read_at};
 ghost use Rattle.warm_pool.specs.Opening.{IsUpTo, IsSize, NewPoolRefused};
-ghost use Rattle.warm_pool.specs.steps.WritingBack.{Cleans, CleanFails, KeepsDevicesBut};
-ghost use Rattle.warm_pool.specs.steps.WritingBack.{WritesFrame};
 ghost use Rattle.warm_pool.specs.Pinning.{PinRefused, LoadRefused, IsNextVictim, CanPinAgain};
 ghost use Rattle.warm_pool.specs.steps.Pinning.{current_slot, LoadsInto, FetchFails, FixesPage};
 ghost use Rattle.warm_pool.specs.steps.Pinning.{FixRefused, IsNextFrameToLoad, PutsPlaced};
@@ -24,15 +21,16 @@ ghost use Rattle.warm_pool.specs.Outcomes.{PinsPage, PinsPlaced, CopiesBytes, Un
 ghost use Rattle.warm_pool.specs.Outcomes.{UpdatesAllRanks, UpdatesRanks, WritesInto};
 
 use crate::MAX_DEVICES;
-use crate::device_list::{all_sized, pages_of, read_page, write_page};
+use crate::device_list::{all_sized, pages_of, read_page};
 use crate::fault::{NewPoolError, NewPoolFault, PoolFault};
-use crate::frame_table::frames::Frames;
 use crate::named::NamesPage;
 use crate::slot::{Placed, Slot};
 use crate::tally::Tally;
+use crate::write_back::write_back;
 use std::alloc::Global;
 use std::marker::Model;
-use warm_devices::{DeviceFault, MAX_PAGE_SIZE, PageDevice};
+use warm_devices::{MAX_PAGE_SIZE, PageDevice};
+use warm_frame_table::Frames;
 use warm_history::History;
 use warm_history::laws::prove_is_history;
 use warm_rank::{MAX_FRAMES, RankKey, key_of};
@@ -562,46 +560,6 @@ impl<D: PageDevice> Pool<D> {
         self.frames.install(at, page, key, fixes, &mut self.spare);
         Ok(())
     }
-}
-
-// Writes back the page of a frame, where it is dirty.
-//
-// Frames and devices are those of a pool. A page being loaded is already in the spare buffer, whose
-// bytes are not part of a pool's value: so this function takes the fields, to which no type
-// invariant applies.
-pub(crate) fn write_back<D: PageDevice>(
-    frames: &mut Frames,
-    devices: &mut Vec<D>,
-    tally: &mut Tally,
-    at: usize,
-) -> Result<(), DeviceFault>
-    requires fit { IsPool (pool_over D.state frames.old frames.old.page_size devices.old.items) }
-    requires there { at < length frames.old.frames }
-    ensures fit { IsPool (pool_over D.state frames.new frames.old.page_size devices.new.items) }
-    ensures done { OnOk result (Cleans
-        (pool_over D.state frames.old frames.old.page_size devices.old.items) at
-        (pool_over D.state frames.new frames.old.page_size devices.new.items)) }
-    ensures failed { OnErr result (CleanFails
-        (pool_over D.state frames.old frames.old.page_size devices.old.items) at
-        (pool_over D.state frames.new frames.old.page_size devices.new.items)) }
-    ensures wrote { WritesFrame (nth_frame frames.old.frames at) (map D.state devices.old.items)
-        (map D.state devices.new.items) result }
-    ensures others { KeepsDevicesBut (nth_frame frames.old.frames at).page
-        (pool_over D.state frames.old frames.old.page_size devices.old.items)
-        (pool_over D.state frames.new frames.old.page_size devices.new.items) }
-    ensures unflushed { FlushesNone (map D.state devices.old.items)
-        (map D.state devices.new.items) }
-    ensures unread { ReadsNone (map D.state devices.old.items) (map D.state devices.new.items) }
-{
-    let Some(page) = frames.page(at) else {
-        return Ok(());
-    };
-    if !frames.is_dirty(at) {
-        return Ok(());
-    }
-    write_page(devices, tally, page, frames.bytes(at))?;
-    frames.clean(at);
-    Ok(())
 }
 
 // Allocates the frames and the spare buffer of a pool over these devices.

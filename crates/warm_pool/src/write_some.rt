@@ -1,17 +1,18 @@
-//! Writing back some of a pool's pages, one page, and those of one device.
+//! Writing back some of a pool's pages, or one page.
 ghost use Rattle.std.specs.Prelude.{◌≡◌, ◌<◌, length, OnOk, IfErr, IfOk, OnErr};
-ghost use Rattle.warm_pool.specs.Frames.{nth_frame};
-ghost use Rattle.warm_pool.specs.Keeping.{KeepsRanks};
+ghost use Rattle.warm_frame_table.specs.Frames.{nth_frame};
+ghost use Rattle.warm_pool.specs.Unchanged.{KeepsRanks};
 ghost use Rattle.warm_pool.specs.Calls.{FlushesNone};
 ghost use Rattle.warm_pool.specs.steps.WritingBack.{CleanFails, Cleans, WritesFrame};
 ghost use Rattle.warm_pool.specs.WritingSome.{CleansFirst, SomeFails, room_after};
-ghost use Rattle.warm_pool.specs.Outcomes.{FlushDeviceFails, SettlesDevice, WritePageFails};
-ghost use Rattle.warm_pool.specs.Outcomes.{WriteSomeFails, WritesPageBack, WritesSomeBack};
+ghost use Rattle.warm_pool.specs.Outcomes.{WritePageFails, WriteSomeFails, WritesPageBack};
+ghost use Rattle.warm_pool.specs.Outcomes.{WritesSomeBack};
 
 use crate::fault::PoolFault;
-use crate::pool::{Pool, write_back};
-use crate::selection::Devices;
+use crate::pool::Pool;
+use crate::write_back::write_back;
 use warm_devices::{DeviceFault, PageDevice};
+use warm_frame_table::Devices;
 use warm_stamps::PageId;
 
 impl<D: PageDevice> Pool<D> {
@@ -57,27 +58,6 @@ impl<D: PageDevice> Pool<D> {
         }
         self.clean_at(at).map_err(|_| PoolFault::Fault)?;
         Ok(true)
-    }
-
-    /// Writes back the dirty pages of one device, in the order of frames, and flushes it where it
-    /// is unflushed. Other devices, and the frames of their pages, are unchanged, whether the call
-    /// is refused or not.
-    ///
-    /// # Errors
-    /// In this order; each leaves pages, pin counts and contents unchanged.
-    /// - `NoDevice`: there is no device of this number. Nothing is changed.
-    /// - `Fault`: a write or the flush of the device failed, and its count of failures has
-    ///   increased. The write-backs made before it stay.
-    pub fn flush_device(&mut self, dev: u16) -> Result<(), PoolFault>
-        ensures ranked { KeepsRanks self.old self.new }
-        ensures done { OnOk result (SettlesDevice dev self.old self.new) }
-        ensures refused { IfErr result (λ why. FlushDeviceFails dev self.old why self.new) }
-    {
-        if dev as usize >= self.devices.len() {
-            return Err(PoolFault::NoDevice);
-        }
-        self.settle_device(dev).map_err(|_| PoolFault::Fault)?;
-        Ok(())
     }
 
     // Writes back the page of a frame, where it is dirty.

@@ -2,21 +2,22 @@
 ghost use Rattle.std.specs.Prelude.{◌≡◌, ◌≢◌, ◌<◌, ◌≤◌, ◌-◌, ◌^◌, length, replicate, None, Some};
 ghost use Rattle.std.specs.Prelude.{IfOk, IfErr, OnOk};
 ghost use Rattle.warm_devices.specs.declared.TheConstants.{MAX_PAGE_SIZE};
-ghost use Rattle.warm_pool.specs.Frames.{nth_frame};
-ghost use Rattle.warm_pool.specs.frame_table.FrameSteps.{changed_at};
+ghost use Rattle.warm_frame_table.specs.Frames.{nth_frame};
+ghost use Rattle.warm_frame_table.specs.FrameSteps.{changed_at};
 ghost use Rattle.warm_pool.specs.State.{RankedBy, IsNowhere, nth_device};
 ghost use Rattle.warm_pool.specs.View.{view_of, HasPage, Holds};
-ghost use Rattle.warm_pool.specs.Keeping.{KeepsRanks};
+ghost use Rattle.warm_pool.specs.Unchanged.{KeepsRanks};
 ghost use Rattle.warm_pool.specs.Calls.{FlushesNone, ReadsNone};
 ghost use Rattle.warm_pool.specs.steps.Pinning.{FixRefused, IsNextFrameToLoad};
 ghost use Rattle.warm_pool.specs.steps.Zeroing.{FixesZeros, ZeroFails, ZeroesInto, zeroed_frame};
 ghost use Rattle.warm_pool.specs.Outcomes.{UnreadPinFails, ZeroesPage};
 
 use crate::fault::PoolFault;
-use crate::frame_table::frames::Frames;
-use crate::pool::{Pool, rank_of, write_back};
+use crate::pool::{Pool, rank_of};
 use crate::slot::Slot;
+use crate::write_back::write_back;
 use warm_devices::{MAX_PAGE_SIZE, PageDevice};
+use warm_frame_table::Frames;
 use warm_history::History;
 use warm_rank::RankKey;
 use warm_stamps::PageId;

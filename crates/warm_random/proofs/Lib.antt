@@ -1,3 +1,3 @@
 mod Examples
-pub mod Written
-mod Lines
+pub mod AppendLemmas
+mod DrawnLineLemmas

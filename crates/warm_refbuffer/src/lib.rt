@@ -105,8 +105,8 @@ impl Full {
 impl RefBuffer {
     /// An empty buffer for `capacity` references, which are allocated here.
     ///
-    /// Refused as `BadCapacity` where `capacity` is outside 1 to [`MAX_CAPACITY`], and otherwise as
-    /// `Memory` where the allocation fails.
+    /// Refused as `BadCapacity` if `capacity` is outside 1 to [`MAX_CAPACITY`], and otherwise as
+    /// `Memory` if the allocation fails.
     pub fn new(alloc: Global, capacity: usize) -> Result<RefBuffer, BufferFault>
         ensures value { IfOk result (λ b. b ≡ record { refs = []; capacity = capacity }) }
         ensures capacity { IsOk result → IsCapacity capacity }

@@ -30,9 +30,8 @@ abbrev pub Calls : Type 0
 Calls = List (Operation Call Reply)
 
 -- The reply of a step, where a buffer of this capacity holds these references, and the pass of
--- number n has its mark or not: whether it has the mark afterwards, the buffer's contents
--- afterwards, and the calls of the pass that the step made. A pass with its mark is never answered
--- again
+-- number n is spent or not: whether it is spent afterwards, the buffer's contents afterwards, and the
+-- calls of the pass that the step made. A spent pass is never answered again
 abbrev pub Gave : (capacity n : ℕ) → Bool → List Reference → Step → StepReply → Bool
     → List Reference → Calls → Type 0
 Gave capacity n spent held (Touch r) Touched after held' made = (length held < capacity)
@@ -54,8 +53,8 @@ Gave capacity n spent held (job_step.Call call) (Failed TurnsSpent) after held' 
 Gave capacity n spent held step reply after held' made = ⊥
 
 -- The replies of steps, one after another, where a buffer of this capacity holds these references:
--- the mark of the pass afterwards, the buffer's contents afterwards, and the calls that the steps
--- made.
+-- whether the pass is spent afterwards, the buffer's contents afterwards, and the calls that the
+-- steps made.
 abbrev pub AllGave : (capacity n : ℕ) → Bool → List Reference → List Step → List StepReply → Bool
     → List Reference → Calls → Type 0
 AllGave capacity n spent held [] [] after held' made = (after ≡ spent) × (held' ≡ held)
@@ -93,12 +92,12 @@ module _ {X : Type 0} where
       × AllGave capacity v.number v.found_last [] steps replies w.found_last held made
       × Extended v made w
 
--- the calls of an ended pass, which began without a mark, are those of a job with these replies
+-- the calls of an ended pass, which did not begin spent, are those of a job with these replies
 abbrev pub WentAs : ℕ → List Step → List StepReply → EndedPass Call Reply → Type 0
 WentAs capacity steps replies e = (after : Bool) × (held : List Reference)
     × AllGave capacity e.number false [] steps replies after held e.calls
 
--- the calls of an ended pass, which began without a mark, are those of this job with these replies
+-- the calls of an ended pass, which did not begin spent, are those of this job with these replies
 abbrev pub JobWentAs : Job → Replied → EndedPass Call Reply → Type 0
 JobWentAs job replies e = WentAs job.cap job.steps.items replies.items e
 

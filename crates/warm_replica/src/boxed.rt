@@ -25,7 +25,7 @@ impl BoxedCall {
     /// The call, with memory for its reply: making the call, and storing its reply, allocate
     /// nothing further for the boxes.
     ///
-    /// `AllocError` occurs only where the allocation for the call or for the reply fails. The call
+    /// `AllocError` occurs only if the allocation for the call or for the reply fails. The call
     /// is then dropped.
     pub fn new(alloc: Global, call: Call) -> Result<BoxedCall, AllocError>
         ensures { IfOk result (λ boxed. boxed ≡ call) }

@@ -60,7 +60,7 @@ pub trait Gate {
     fn after(&self, job: usize, step: usize);
 }
 
-/// A gate that does nothing, for jobs that nobody watches.
+/// A [`Gate`] that does nothing, for jobs that nobody watches.
 #[derive(Clone, Copy, Debug)]
 pub struct NoGate;
 

@@ -2,9 +2,9 @@
 ghost use Rattle.std.specs.Prelude.{◌≡◌, length};
 ghost use Rattle.std.specs.Fn.{FnOnceReturnsAt, FnOnceReturnsAtMut};
 ghost use Rattle.warm_pool.specs.View.{view_of, Holds};
-ghost use Rattle.warm_replica.specs.Lent.{SlotChanged, SlotShown};
+ghost use Rattle.warm_replica.specs.LentPages.{SlotChanged, SlotShown};
 
-use crate::told::tag_of;
+use crate::snapshots::tag_of;
 use boxcar::tag::Tag;
 use warm_devices::PageDevice;
 use warm_gossip::Node;
@@ -12,14 +12,14 @@ use warm_pool::Slot;
 
 // What a look gives: the bytes of the page as contracts see them, how many they are, and what the
 // closure returned.
-pub(crate) struct Shown<T> {
+pub(crate) struct LookOutput<T> {
     pub(crate) bytes: Tag,
     pub(crate) len: usize,
     pub(crate) output: T,
 }
 
 // What a change gives: the bytes before and after, and what the closure returned.
-pub(crate) struct Left<T> {
+pub(crate) struct ChangeOutput<T> {
     pub(crate) before: Tag,
     pub(crate) after: Tag,
     pub(crate) output: T,
@@ -31,7 +31,7 @@ pub(crate) fn look_in<D: PageDevice, T, F: FnOnce(&[u8]) -> T + Drop>(
     node: &Node<D>,
     slot: Slot,
     f: F,
-) -> Shown<T>
+) -> LookOutput<T>
     requires holds { Holds (view_of node.now.pool) slot }
     requires callable { F.IsAlwaysCallable f }
     ensures page { SlotShown node.now slot result.bytes.numbers }
@@ -42,7 +42,7 @@ pub(crate) fn look_in<D: PageDevice, T, F: FnOnce(&[u8]) -> T + Drop>(
     let bytes = tag_of(lent);
     let len = lent.len();
     let output = f(lent);
-    Shown { bytes, len, output }
+    LookOutput { bytes, len, output }
 }
 
 // Calls the closure with all bytes of the slot's page, to be written to. What it leaves in them is
@@ -52,7 +52,7 @@ pub(crate) fn change_in<D: PageDevice, T, F: FnOnce(&mut [u8]) -> T + Drop>(
     node: &mut Node<D>,
     slot: Slot,
     f: F,
-) -> Left<T>
+) -> ChangeOutput<T>
     requires holds { Holds (view_of node.old.pool) slot }
     requires callable { F.IsAlwaysCallable f }
     ensures page { SlotChanged node.old slot result.before.numbers result.after.numbers node.new }
@@ -64,7 +64,7 @@ pub(crate) fn change_in<D: PageDevice, T, F: FnOnce(&mut [u8]) -> T + Drop>(
     let before = tag_of(lent);
     let output = f(&mut *lent);
     let after = tag_of(lent);
-    Left {
+    ChangeOutput {
         before,
         after,
         output,

@@ -96,7 +96,7 @@ fn next_item<I: Iterator<Item = Mail>>(mail: &mut I) -> Option<Mail>
     mail.next()
 }
 
-/// Takes mail until it has taken `stops` Stops or `turns` items, or the mail ends; nothing where
+/// Takes mail until it has taken `stops` Stops or `turns` items, or the mail ends; nothing if
 /// `stops` or `turns` is 0. Bytes are decoded, the message is received by the replica in a turn of
 /// its own, and the answers are posted to the message's sender. The worker's buffer is unchanged.
 ///

@@ -10,14 +10,14 @@ use warm_stamps::ByteList;
 /// One item of mail: what a channel carries to the replica whose mail it is.
 #[derive(Drop)]
 pub enum Mail {
-    /// Bytes that should spell a message. Where they spell none, the item is counted as refused.
+    /// Bytes that should spell a message. If they spell none, the item is counted as refused.
     Bytes(ByteList),
     /// The sign that a sender is done. It says nothing about other senders.
     Stop,
 }
 
 /// The mail of a channel, in the order in which it is received: at most `left` items, and an end
-/// where the channel is closed and empty. It waits for the next item. The items are unspecified.
+/// if the channel is closed and empty. It waits for the next item. The items are unspecified.
 #[derive(Drop)]
 pub struct MailIter<'a, R: Wait> {
     receiver: Receiver<Mail>,
@@ -26,7 +26,7 @@ pub struct MailIter<'a, R: Wait> {
 }
 
 impl<'a, R: Wait> MailIter<'a, R> {
-    /// The mail of this channel, at most `most` items: none where that is 0. Allocation-free.
+    /// The mail of this channel, at most `most` items: none if that is 0. Allocation-free.
     pub fn new(rt: &'a R, receiver: Receiver<Mail>, most: u64) -> MailIter<'a, R>
         ensures left { ⟦<MailIter<'a, R> as Iterator>⟧.remaining result ≡ at_most most }
         ensures most { GivesAtMost ⟦<MailIter<'a, R> as Iterator>⟧.next_gives result most }

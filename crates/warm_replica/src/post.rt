@@ -143,7 +143,7 @@ impl<'a, R: Wait> Post for Outboxes<'a, R> {
 
     ghost given = { λ _. [] };
 
-    /// May wait. The bytes are given back where no outbox has that number, and where the channel
+    /// May wait. The bytes are given back if no outbox has that number, and if the channel
     /// has no receiver or is full.
     fn post(&mut self, to: ReplicaId, bytes: ByteList) -> Result<(), ByteList>
         ensures back { IfErr result (λ same. same ≡ bytes) }

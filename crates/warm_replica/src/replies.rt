@@ -90,7 +90,7 @@ impl Replies {
     /// The replies, one for each step, in order.
     ///
     /// # Errors
-    /// Where their allocation fails, the replies are given back.
+    /// If their allocation fails, the replies are given back.
     pub fn into_vec(self, alloc: Global) -> Result<Vec<StepReply>, Replies>
         ensures all { IfOk result (λ all. all.items ≡ self.items) }
         ensures kept { IfErr result (λ back. back ≡ self) }

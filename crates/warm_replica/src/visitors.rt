@@ -3,10 +3,10 @@ ghost use Rattle.std.specs.Prelude.{◌≡◌, IsSome};
 ghost use Rattle.std.specs.Fn.{FnOnceReturnsAt, FnOnceReturnsAtMut};
 ghost use Rattle.warm_pool.specs.PageBytes.{MakesDirty};
 ghost use Rattle.warm_gossip.specs.Clauses.{Goes};
-ghost use Rattle.warm_replica.specs.Lent.{ChangesBy, LooksBy};
+ghost use Rattle.warm_replica.specs.LentPages.{ChangesBy, LooksBy};
 
-use crate::lending::{Left, Shown, change_in, look_in};
-use crate::told::{read_made, stale_read, write_made};
+use crate::lending::{ChangeOutput, LookOutput, change_in, look_in};
+use crate::snapshots::{read_made, stale_read, write_made};
 use warm_devices::PageDevice;
 use warm_gossip::{Call, Node, Reply};
 use warm_pool::Slot;
@@ -14,14 +14,14 @@ use warm_turn::{Visit, Visited};
 
 // Calls a closure with the bytes of a slot's page where they lie.
 #[derive(Drop)]
-pub(crate) struct Looking<F> {
+pub(crate) struct SlotLook<F> {
     pub(crate) slot: Slot,
     pub(crate) f: F,
 }
 
-impl<D: PageDevice + Send, T, F: FnOnce(&[u8]) -> T + Drop> Visit<Node<D>> for Looking<F> {
+impl<D: PageDevice + Send, T, F: FnOnce(&[u8]) -> T + Drop> Visit<Node<D>> for SlotLook<F> {
     ghost use Rattle.std.specs.Fn.{FnOnceReturnsAt};
-    ghost use Rattle.warm_replica.specs.Lent.{LooksBy};
+    ghost use Rattle.warm_replica.specs.LentPages.{LooksBy};
 
     type Output = Option<T>;
 
@@ -31,21 +31,21 @@ impl<D: PageDevice + Send, T, F: FnOnce(&[u8]) -> T + Drop> Visit<Node<D>> for L
         (λ given bytes. FnOnceReturnsAt F.FnOnce v.f bytes given) output call reply };
 
     fn visit(self, node: &mut Node<D>) -> Visited<Call, Reply, Option<T>> {
-        let Looking { slot, f } = self;
+        let SlotLook { slot, f } = self;
         looked(node, slot, f)
     }
 }
 
 // Calls a closure with the bytes of a slot's page where they lie, to be written to.
 #[derive(Drop)]
-pub(crate) struct Changing<F> {
+pub(crate) struct SlotChange<F> {
     pub(crate) slot: Slot,
     pub(crate) f: F,
 }
 
-impl<D: PageDevice + Send, T, F: FnOnce(&mut [u8]) -> T + Drop> Visit<Node<D>> for Changing<F> {
+impl<D: PageDevice + Send, T, F: FnOnce(&mut [u8]) -> T + Drop> Visit<Node<D>> for SlotChange<F> {
     ghost use Rattle.std.specs.Fn.{FnOnceReturnsAtMut};
-    ghost use Rattle.warm_replica.specs.Lent.{ChangesBy};
+    ghost use Rattle.warm_replica.specs.LentPages.{ChangesBy};
 
     type Output = Option<T>;
 
@@ -56,7 +56,7 @@ impl<D: PageDevice + Send, T, F: FnOnce(&mut [u8]) -> T + Drop> Visit<Node<D>> f
         output call reply };
 
     fn visit(self, node: &mut Node<D>) -> Visited<Call, Reply, Option<T>> {
-        let Changing { slot, f } = self;
+        let SlotChange { slot, f } = self;
         changed(node, slot, f)
     }
 }
@@ -78,7 +78,7 @@ fn looked<D: PageDevice, T, F: FnOnce(&[u8]) -> T + Drop>(
             output: None,
         };
     }
-    let Shown { bytes, len, output } = look_in(node, slot, f);
+    let LookOutput { bytes, len, output } = look_in(node, slot, f);
     Visited {
         made: read_made(slot, len, &bytes),
         output: Some(output),
@@ -105,7 +105,7 @@ fn changed<D: PageDevice, T, F: FnOnce(&mut [u8]) -> T + Drop>(
             output: None,
         };
     }
-    let Left {
+    let ChangeOutput {
         before: _before,
         after,
         output,

@@ -24,7 +24,7 @@ pub trait BatchMachine: Machine<Call = Call, Reply = Reply> {
 }
 
 impl<D: PageDevice + Send> BatchMachine for Node<D> {
-    ghost use Rattle.warm_gossip.proofs.Batches.{batches_are_taken};
+    ghost use Rattle.warm_gossip.proofs.BatchLemmas.{batches_are_taken};
 
     ghost absorbs = { batches_are_taken };
 }
@@ -86,7 +86,7 @@ impl<M: Machine<Call = Call, Reply = Reply>> Worker<M> {
         self.buffer.touch(reference)
     }
 
-    /// Makes a call in a turn of its own, and may wait for it. The buffer is unchanged, also where
+    /// Makes a call in a turn of its own, and may wait for it. The buffer is unchanged, even if
     /// the call absorbs references.
     ///
     /// # Errors

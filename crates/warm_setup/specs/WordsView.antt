@@ -3,15 +3,15 @@ use Rattle.std.specs.Prelude.{◌≡◌, ◌≢◌, option_map}
 use Rattle.clap.specs.Words.{kind_of}
 use Rattle.clap.specs.declared.error.Error.{Error}
 use Rattle.clap.specs.declared.error.kind.ErrorKind.TheVariants.{OutOfMemory}
-use Rattle.warm_setup.specs.declared.command.Asked.{Asked}
-use Rattle.warm_setup.specs.declared.command.Asked.TheVariants as asked
+use Rattle.warm_setup.specs.declared.command.BorrowedCmd.{BorrowedCmd}
+use Rattle.warm_setup.specs.declared.command.BorrowedCmd.TheVariants as asked
 use Rattle.warm_setup.specs.declared.command.Cmd.{Cmd}
 use Rattle.warm_setup.specs.declared.command.Cmd.TheVariants.{Play, Random, Threads}
 use Rattle.warm_setup.specs.declared.command.CmdFault.{CmdFault}
 use Rattle.warm_setup.specs.declared.command.CmdFault.TheVariants.{Memory, Refused}
 
 -- the command that the arguments stand for
-abbrev pub command_for : Asked → Cmd
+abbrev pub command_for : BorrowedCmd → Cmd
 command_for (asked.Play file setup) =
     Play (option_map (λ text. text.now) file) (option_map (λ text. text.now) setup)
 command_for (asked.Random seed events setup) =

@@ -28,7 +28,7 @@ pub const MAX_EVENTS: u64 = 1_000_000;
 /// The command that the words request.
 #[derive(Debug, Drop)]
 pub enum Cmd {
-    /// To play the schedule in `file`, or standard input where there is none, with the setup in
+    /// To play the schedule in `file`, or standard input if there is none, with the setup in
     /// `setup`, or the defaults.
     Play {
         file: Option<PathText>,
@@ -108,7 +108,7 @@ impl From<clap::Error> for CmdFault {
 
 // The command that the words request, as text.
 #[derive(Clone, Copy)]
-enum Asked<'a> {
+enum BorrowedCmd<'a> {
     Play(Option<&'a str>, Option<&'a str>),
     Random(u64, u32, Option<&'a str>),
     Threads(&'a str, Option<&'a str>),
@@ -233,22 +233,22 @@ fn events_in(found: &ArgMatches<'_>) -> Option<u32>
     found.get_one("events")
 }
 
-fn random_in<'a>(found: &ArgMatches<'a>) -> Option<Asked<'a>>
+fn random_in<'a>(found: &ArgMatches<'a>) -> Option<BorrowedCmd<'a>>
     ensures { option_map command_for result ≡ random_by (rows_of (found_of found.now)) }
 {
     let seed = seed_in(found)?;
     let events = events_in(found)?;
-    Some(Asked::Random(seed, events, found.get_str("setup")))
+    Some(BorrowedCmd::Random(seed, events, found.get_str("setup")))
 }
 
-fn threads_in<'a>(found: &ArgMatches<'a>) -> Option<Asked<'a>>
+fn threads_in<'a>(found: &ArgMatches<'a>) -> Option<BorrowedCmd<'a>>
     ensures { option_map command_for result ≡ threads_by (rows_of (found_of found.now)) }
 {
     let file = found.get_str("file")?;
-    Some(Asked::Threads(file, found.get_str("setup")))
+    Some(BorrowedCmd::Threads(file, found.get_str("setup")))
 }
 
-fn asked_in<'a>(matches: &ArgMatches<'a>) -> Option<Asked<'a>>
+fn asked_in<'a>(matches: &ArgMatches<'a>) -> Option<BorrowedCmd<'a>>
     ensures { option_map command_for result
         ≡ option_and_then command_by (subcommand_rows_of matches.now) }
 {
@@ -256,7 +256,7 @@ fn asked_in<'a>(matches: &ArgMatches<'a>) -> Option<Asked<'a>>
     let file = found.get_str("file");
     let setup = found.get_str("setup");
     if name == "play" {
-        return Some(Asked::Play(file, setup));
+        return Some(BorrowedCmd::Play(file, setup));
     }
     if name == "random" {
         return random_in(found);
@@ -267,16 +267,16 @@ fn asked_in<'a>(matches: &ArgMatches<'a>) -> Option<Asked<'a>>
     None
 }
 
-fn command_for<'a>(alloc: Global, asked: Asked<'a>) -> Result<Cmd, AllocError>
+fn command_for<'a>(alloc: Global, asked: BorrowedCmd<'a>) -> Result<Cmd, AllocError>
     ensures { IfOk result (λ command. command ≡ command_for asked.entry) }
 {
     match asked {
-        Asked::Play(file, setup) => {
+        BorrowedCmd::Play(file, setup) => {
             let file = copied(alloc, file)?;
             let setup = copied(alloc, setup)?;
             Ok(Cmd::Play { file, setup })
         }
-        Asked::Random(seed, events, setup) => {
+        BorrowedCmd::Random(seed, events, setup) => {
             let setup = copied(alloc, setup)?;
             Ok(Cmd::Random {
                 seed,
@@ -284,7 +284,7 @@ fn command_for<'a>(alloc: Global, asked: Asked<'a>) -> Result<Cmd, AllocError>
                 setup,
             })
         }
-        Asked::Threads(file, setup) => {
+        BorrowedCmd::Threads(file, setup) => {
             let file = PathText::copied_from(alloc, file)?;
             let setup = copied(alloc, setup)?;
             Ok(Cmd::Threads { file, setup })
@@ -305,7 +305,7 @@ fn copied(alloc: Global, text: Option<&str>) -> Result<Option<PathText>, AllocEr
 }
 
 /// The fault of a command line with a word that is not UTF-8, which no command takes:
-/// [`CmdFault::Refused`], or [`CmdFault::Memory`] where the allocation of its text fails.
+/// [`CmdFault::Refused`], or [`CmdFault::Memory`] if the allocation of its text fails.
 pub fn non_utf8_argument(alloc: Global) -> CmdFault
     ensures { IsRefusal ErrorKind.InvalidValue result }
 {
@@ -331,8 +331,8 @@ fn refused(alloc: Global, kind: ErrorKind, why: &str) -> CmdFault
 /// The command that the words request. The first word is the program's own name.
 ///
 /// The command and its values are those that clap's own definition of the matches gives for the
-/// words. The error is [`CmdFault::Refused`] where clap refuses them or answers a request for help,
-/// or where `random` lacks a number or `threads` a file, and [`CmdFault::Memory`] where an
+/// words. The error is [`CmdFault::Refused`] if clap refuses them or answers a request for help,
+/// or if `random` lacks a number or `threads` a file, and [`CmdFault::Memory`] if an
 /// allocation failed, including one of clap (its kind `OutOfMemory`).
 pub fn command_of<S: AsStr>(alloc: Global, words: &[S]) -> Result<Cmd, CmdFault>
     ensures { Answers (map S.text words.now) result }

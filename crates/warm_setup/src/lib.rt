@@ -11,7 +11,7 @@ mod path;
 mod setup;
 
 pub use command::{Cmd, CmdFault, MAX_EVENTS, command_of, non_utf8_argument};
-pub use outcome::{ErrorLine, Outcome, ProgramFault, outcome_of};
+pub use outcome::{ErrorLine, ProgramFault, RunOutcome, outcome_of};
 pub use path::PathText;
 pub use setup::{
     DeviceSpec, MAX_LISTED_DEVICES, MAX_PAGES, SetupFault, read_setup, read_setup_file,

@@ -68,7 +68,7 @@ impl From<PlayFault> for ProgramFault {
 
 /// The end of the program.
 #[derive(Drop)]
-pub struct Outcome<'a> {
+pub struct RunOutcome<'a> {
     /// The exit status.
     pub status: u8,
     /// The text for standard error, besides clap's own text.
@@ -188,28 +188,28 @@ fn number_of(fault: PlayFault) -> Option<u64>
 /// | the setup was refused | 2 | `warmplay: setup: ` and the fault's name |
 /// | the play stopped | 1 | `warmplay: ` and the fault's name; for a bad line its number follows |
 /// | an allocation for the arguments failed | 1 | `warmplay: Memory` |
-pub fn outcome_of<'a>(ended: &'a Result<(), ProgramFault>) -> Outcome<'a>
+pub fn outcome_of<'a>(ended: &'a Result<(), ProgramFault>) -> RunOutcome<'a>
     ensures status { result.status ≡ exit_status ended.entry.now }
     ensures line { result.line ≡ error_line ended.entry.now }
 {
     match ended {
-        Ok(()) => Outcome {
+        Ok(()) => RunOutcome {
             status: 0,
             line: ErrorLine::nothing(),
         },
-        Err(ProgramFault::Command(fault)) => Outcome {
+        Err(ProgramFault::Command(fault)) => RunOutcome {
             status: command_status(fault),
             line: command_line(fault),
         },
-        Err(ProgramFault::CannotOpen(name)) => Outcome {
+        Err(ProgramFault::CannotOpen(name)) => RunOutcome {
             status: 1,
             line: ErrorLine::of("warmplay: cannot open ", name.as_str()),
         },
-        Err(ProgramFault::Setup(fault)) => Outcome {
+        Err(ProgramFault::Setup(fault)) => RunOutcome {
             status: 2,
             line: ErrorLine::of("warmplay: setup: ", fault.name()),
         },
-        Err(ProgramFault::Play(fault)) => Outcome {
+        Err(ProgramFault::Play(fault)) => RunOutcome {
             status: 1,
             line: ErrorLine::numbered("warmplay: ", fault.name(), number_of(*fault)),
         },

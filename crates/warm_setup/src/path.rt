@@ -21,7 +21,7 @@ impl Model for PathText {
 impl PathText {
     ghost use Rattle.std.specs.Prelude.{◌≡◌, ◌++◌, IfOk, codes, decimal};
 
-    /// A copy of the text. `AllocError` where its allocation fails.
+    /// A copy of the text. `AllocError` if its allocation fails.
     pub fn copied_from(alloc: Global, text: &str) -> Result<PathText, AllocError>
         ensures { IfOk result (λ path. path ≡ text.now) }
     {
@@ -30,7 +30,7 @@ impl PathText {
     }
 
     /// The file of a replica, of those that a device's path names: the path, a dot and the
-    /// replica's number. `AllocError` where its allocation fails.
+    /// replica's number. `AllocError` if its allocation fails.
     pub fn of_replica(&self, alloc: Global, replica: u16) -> Result<PathText, AllocError>
         ensures { IfOk result (λ path. path ≡ self.now ++ codes "." ++ decimal replica) }
     {

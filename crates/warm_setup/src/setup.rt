@@ -356,15 +356,15 @@ fn setup_of_keys(keys: SetupKeys) -> (Setup, Vec<DeviceSpec>)
     }
 }
 
-/// The setup and the devices that a text means: each key's value, or its default where the text
+/// The setup and the devices that a text means: each key's value, or its default if the text
 /// lacks the key.
 ///
 /// Keys are read in the order of their bytes, the devices of `device` in their order, and a
 /// device's keys in the order of their bytes, its missing `pages` last; the first fault is
 /// returned. For one key [`SetupFault::BadKey`] comes before [`SetupFault::BadValue`]. For `device`
 /// the types of the array and its elements come first, then its length, then its devices.
-/// [`SetupFault::NotToml`] is returned only where the text is not a TOML document (TOML 1.1, nested
-/// at most 80 deep), and [`SetupFault::Memory`] only where an allocation failed, which can be
+/// [`SetupFault::NotToml`] is returned only if the text is not a TOML document (TOML 1.1, nested
+/// at most 80 deep), and [`SetupFault::Memory`] only if an allocation failed, which can be
 /// before any fault of the text is found.
 pub fn read_setup(alloc: Global, text: &str) -> Result<(Setup, Vec<DeviceSpec>), SetupFault>
     ensures { GivesMeaning setup_and_devices (setup_in (parse_document text.now)) result }
@@ -374,7 +374,7 @@ pub fn read_setup(alloc: Global, text: &str) -> Result<(Setup, Vec<DeviceSpec>),
     Ok(setup_of_keys(keys))
 }
 
-/// The setup that a file's bytes hold: [`read_setup`] of the text where they are UTF-8, else
+/// The setup that a file's bytes hold: [`read_setup`] of the text if they are UTF-8, else
 /// [`SetupFault::NotToml`].
 pub fn read_setup_file(alloc: Global, bytes: &[u8]) -> Result<(Setup, Vec<DeviceSpec>), SetupFault>
     ensures text { IsUtf8 bytes.now

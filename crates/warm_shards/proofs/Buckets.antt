@@ -17,7 +17,7 @@ use Rattle.warm_history.proofs.ListHistoryLemmas.{get, get-history}
 use Rattle.warm_history.proofs.SinceLemmas.{history-since}
 use Rattle.warm_gossip.specs.State.{NodeState}
 use Rattle.warm_shards.specs.Shards.{AreShards, held, shard_at, whole}
-use Rattle.warm_shards.proofs.Knowing.{hist_whole, whole_horizon}
+use Rattle.warm_shards.proofs.WholeLemmas.{hist_whole, whole_horizon}
 use Rattle.warm_shards.proofs.Lists.{filter_within}
 
 -- what a history says of a page is what its references say

@@ -1,29 +1,26 @@
 -- What a call of one node does to the shards.
-use Rattle.std.proofs.Common.{◌≡◌, ℕ, zero, suc, ◌<◌, Bool, true, false, List, [], ◌∷◌, filter, length, max, set, get_or, Some, refl, sym, ap, subst, ◌∙◌, arith}
-use Rattle.std.specs.Prelude.{nat_eq}
+use Rattle.std.proofs.Common.{◌≡◌, ℕ, zero, suc, ◌<◌, List, [], ◌∷◌, length, max, set, get_or, Some, refl, sym, ap, subst, ◌∙◌, arith}
 use Rattle.std.specs.List.{AllByRecursion}
 use Rattle.std.specs.Ordering.{flip_args}
-use Rattle.std.proofs.Math.Nat.{max-zero}
-use Rattle.std.proofs.lemmas.Bool.{eqb-true}
 use Rattle.std.proofs.lemmas.List.{length-set}
 use Rattle.warm_stamps.specs.declared.PageId.{PageId}
 use Rattle.warm_stamps.specs.declared.Reference.{Reference}
 use Rattle.warm_stamps.specs.Distinct.{distinct}
 use Rattle.warm_stamps.proofs.DistinctLemmas.{all_of_has, all_take, has_from_distinct}
 use Rattle.warm_stamps.proofs.StampLemmas.{IsStrictOrder-flip}
-use Rattle.warm_history.specs.ReferenceSets.{ReferenceSet, set_of_list, ◌∪◌}
+use Rattle.warm_history.specs.ReferenceSets.{ReferenceSet, ◌∪◌}
 use Rattle.warm_history.specs.Histories.{HistoryView, IsHistory, entries_of, history, pages, references_of}
 use Rattle.warm_history.proofs.HistoryLemmas.{IsHistory-history, horizon-history}
 use Rattle.warm_rank.specs.Ranking.{eviction_cmp, hottest_pages}
 use Rattle.warm_rank.proofs.EvictionLemmas.{eviction_order}
 use Rattle.warm_pool.specs.declared.slot.Slot.{Slot}
-use Rattle.warm_pool.specs.Keeping.{KeepsBytes}
+use Rattle.warm_pool.specs.Unchanged.{KeepsBytes}
 use Rattle.warm_pool.specs.Pinning.{PutsIn}
 use Rattle.warm_pool.specs.State.{PoolState}
 use Rattle.warm_pool.specs.View.{PoolView, frame_at, view_of}
 use Rattle.warm_gossip.specs.State.{NodeState, NodeView, node_view}
 use Rattle.warm_gossip.specs.declared.call.Call.TheVariants.{Absorb}
-use Rattle.warm_gossip.specs.declared.call.Reply.TheVariants.{Done, Refused}
+use Rattle.warm_gossip.specs.declared.call.Reply.TheVariants.{Refused}
 use Rattle.warm_gossip.specs.declared.fault.NodeFault.{NodeFault}
 use Rattle.warm_gossip.specs.declared.fault.NodeFault.TheVariants.{Memory, Pool, StaleSlot}
 use Rattle.warm_gossip.specs.Clauses.{Goes}
@@ -31,12 +28,12 @@ use Rattle.warm_gossip.specs.Step.{IsNextWarm, nth_page}
 use Rattle.warm_gossip.proofs.VictimLemmas.{KeepsPages, frames_after}
 use Rattle.warm_shards.specs.Clauses.{KeepPools, SameShards}
 use Rattle.warm_shards.specs.Shards.{AreShards, HoldsPagesOf, IsShard, held, shard_at, shard_of, whole}
-use Rattle.warm_shards.proofs.Keeping.{all_shards, at_each, still_shards}
+use Rattle.warm_shards.proofs.AreShardsLemmas.{all_shards, at_each}
 use Rattle.warm_shards.proofs.Pages.{all_held, all_pages, all_taken, each_has}
 
 -- ---- pools that stay
 
-bytes_after : (a b c : PoolState) → KeepsBytes a b → KeepsBytes b c → KeepsBytes a c
+pub bytes_after : (a b c : PoolState) → KeepsBytes a b → KeepsBytes b c → KeepsBytes a c
 bytes_after a b c x y = record {
   devices = y.devices ∙ x.devices;
   bytes = λ k. y.bytes k ∙ x.bytes k;
@@ -45,18 +42,6 @@ bytes_after a b c x y = record {
 
 pub bytes_same : (a : PoolState) → KeepsBytes a a
 bytes_same a = record { devices = refl; bytes = λ k. refl; dirty = λ k. refl }
-
-pub keep_none : (ns : List NodeState) → KeepPools ns ns
-keep_none ns = record { count = refl; views = λ i. refl; bytes = λ i. bytes_same (shard_at ns i).pool }
-
-pub keep_one : (old ns : List NodeState) (i : ℕ) (m : NodeState) → i < length ns
-    → KeepPools old ns → view_of m.pool ≡ view_of (shard_at ns i).pool
-    → KeepsBytes (shard_at ns i).pool m.pool → KeepPools old (set ns i m)
-keep_one old ns i m lt kept view bytes = record {
-  count = length-set ns i m ∙ kept.count;
-  views = at_each (λ k n. view_of n.pool ≡ view_of (shard_at old k).pool) ns i m lt (view ∙ kept.views i) (λ k other. kept.views k);
-  bytes = at_each (λ k n. KeepsBytes (shard_at old k).pool n.pool) ns i m lt (bytes_after (shard_at old i).pool (shard_at ns i).pool m.pool (kept.bytes i) bytes) (λ k other. kept.bytes k);
-}
 
 pub keep_then : (a b c : List NodeState) → KeepPools a b → KeepPools b c → KeepPools a c
 keep_then a b c x y = record {
@@ -172,18 +157,6 @@ same_shards old new same some are =
     all_shards number latest new (rw same.count are.count) (omega (arith, same.count)) (λ i lt.
     subst (λ c. IsShard c number latest i (shard_at new i)) (sym same.count) (same_shard (length old) number latest i (shard_at old i) (shard_at new i) (are.each i (omega (arith, same.count))) (same.views i)))
 
--- a part of a batch has pages of its shard alone
-pub part_is_own : (count i : ℕ) (batch : List Reference)
-    → AllByRecursion (λ r. shard_of count r.page ≡ i) (filter (λ r. nat_eq (shard_of count r.page) i) batch)
-part_is_own count i [] = tt
-part_is_own count i (r ∷ rs) = cases (nat_eq (shard_of count r.page) i) refl (part_is_own count i rs)
-  where
-    cases : (b : Bool) → nat_eq (shard_of count r.page) i ≡ b
-        → AllByRecursion (λ (x : Reference). shard_of count x.page ≡ i) (filter (λ x. nat_eq (shard_of count x.page) i) rs)
-        → AllByRecursion (λ (x : Reference). shard_of count x.page ≡ i) (filter (λ x. nat_eq (shard_of count x.page) i) (r ∷ rs))
-    cases true is rest = rw is (eqb-true (shard_of count r.page) i is, rest)
-    cases false is rest = rw is rest
-
 -- ---- the pages in a pool
 
 abbrev pub HasOnly : (PageId → Type 0) → PoolView → Type 0
@@ -216,8 +189,6 @@ next_is_own count i n p old next =
     let hottest = hottest_pages R (length n.pool.frames) in
     subst own next.2 (each_nth own hottest next.0 (all_take own (length n.pool.frames) (distinct falls (pages R)) all) next.1)
 
--- ---- absorbing, shard by shard
-
 pub absorb_refused : (n m : NodeState) (batch : List Reference) (why : NodeFault)
     → Goes n (Absorb batch) (Refused why) m → (why ≡ Memory) × (node_view m ≡ node_view n)
 absorb_refused n m batch Memory same = (refl, same)
@@ -230,21 +201,3 @@ pub read_at : (ns : List NodeState) (i : ℕ) (n d : NodeState) → i < length n
 read_at [] i n d lt is = absurd (omega arith)
 read_at (x ∷ xs) zero n d lt is = is
 read_at (x ∷ xs) (suc i) n d lt is = read_at xs i n d (omega arith) is
-
--- the next shard has absorbed its part
-pub absorbed_next : (ns : List NodeState) (k : ℕ) (n m : NodeState) (part : List Reference)
-    → AreShards ns → k < length ns → n ≡ shard_at ns k
-    → AllByRecursion (λ r. shard_of (length ns) r.page ≡ k) part
-    → Goes n (Absorb part) Done m → AreShards (set ns k m)
-absorbed_next ns k n m part are lt is own goes =
-    let number = (shard_at ns 0).id in
-    let latest = (shard_at ns 0).history.horizon in
-    let old : IsShard (length ns) number latest k n = subst (IsShard (length ns) number latest k) (sym is) (are.each k lt) in
-    still_shards ns k m are lt (subst (λ h. IsShard (length ns) number h k m) (max-zero latest) (takes_shard (length ns) number latest k n m (set_of_list part) old goes own))
-
--- the id of all together stays
-pub id_stays : (old ns : List NodeState) (k : ℕ) (m : NodeState) → k < length ns
-    → m.id ≡ (shard_at ns k).id → (shard_at ns 0).id ≡ (shard_at old 0).id
-    → (shard_at (set ns k m) 0).id ≡ (shard_at old 0).id
-id_stays old ns k m lt id so_far =
-    at_each (λ i n. n.id ≡ (shard_at ns i).id) ns k m lt id (λ i other. refl) 0 ∙ so_far

@@ -4,19 +4,20 @@ use Rattle.std.specs.Prelude.{IfErr, OnOk, if◌then◌else◌}
 use Rattle.warm_stamps.specs.declared.PageId.{PageId}
 use Rattle.warm_history.specs.Histories.{HistoryView}
 use Rattle.warm_devices.specs.Device.{DeviceState}
+use Rattle.warm_frame_table.specs.Frames.{FrameState}
+use Rattle.warm_frame_table.specs.FrameSteps.{vacated}
+use Rattle.warm_frame_table.specs.Selection.{is_from, is_on}
+use Rattle.warm_frame_table.proofs.ListLemmas.{at_set}
 use Rattle.warm_pool.specs.declared.fault.PoolFault.{PoolFault}
 use Rattle.warm_pool.specs.declared.fault.PoolFault.TheVariants.{SizeDiffers, NoDevice, Fixed, Fault}
 use Rattle.warm_pool.specs.declared.slot.Slot.{Slot}
 use Rattle.warm_pool.specs.Forgetting.{Forgets}
-use Rattle.warm_pool.specs.Frames.{FrameState, vacated}
 use Rattle.warm_pool.specs.Outcomes.{FlushDeviceFails, SettlesDevice, UnreadPinFails, WritePageFails, WriteSomeFails, WritesPageBack, WritesSomeBack}
 use Rattle.warm_pool.specs.Retiring.{RetireRefused, Retired, emptied}
 use Rattle.warm_pool.specs.State.{PoolState}
 use Rattle.warm_pool.specs.View.{FrameView, PoolView, frame_at, frame_view, view_of}
-use Rattle.warm_pool.specs.WritingBack.{is_from, is_on}
 use Rattle.warm_pool.specs.WritingSome.{FlushRefused}
 use Rattle.warm_pool.specs.Zeroing.{PinnedZeroed, PutsZeros}
-use Rattle.warm_pool.proofs.Slots.{at_set}
 use Rattle.warm_gossip.specs.declared.fault.NodeFault.{NodeFault}
 use Rattle.warm_gossip.specs.Clauses.{OfPool}
 use Rattle.warm_gossip.specs.Engine.{AsksPool, KeepsKnown}

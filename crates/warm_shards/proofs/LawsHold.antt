@@ -12,8 +12,8 @@ use Rattle.warm_gossip.specs.Victims.{IsEvicted}
 use Rattle.warm_gossip.proofs.VictimLemmas.{KeepsPages, PutsPage, frames_after, step_leads, victim_left}
 use Rattle.warm_shards.specs.Laws.{FirstAreGiven, ShardVictimsAreFarthest, ShardsStand, WholeIsOfGiven}
 use Rattle.warm_shards.specs.Shards.{as_node, of_first_shards, shard_at, whole}
-use Rattle.warm_shards.proofs.Gathering.{digest_whole}
-use Rattle.warm_shards.proofs.Standing.{shard_stands}
+use Rattle.warm_shards.proofs.DigestLemmas.{digest_whole}
+use Rattle.warm_shards.proofs.StandsForLemmas.{shard_stands}
 use Rattle.warm_shards.proofs.Victims.{victim_whole}
 
 pub whole_is_of_given : WholeIsOfGiven

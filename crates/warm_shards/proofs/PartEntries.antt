@@ -1,8 +1,7 @@
--- The entries that a message brings to one shard.
-use Rattle.std.proofs.Common.{◌≡◌, ◌≢◌, ℕ, zero, suc, ◌<◌, Bool, true, false, List, [], ◌∷◌, ◌++◌, get_or, length, map, arith, nat_eq, not, refl, sym, ap, ◌∙◌}
+-- The references that a part of a batch or of entries holds.
+use Rattle.std.proofs.Common.{◌≡◌, ◌≢◌, ℕ, Bool, List, [], ◌∷◌, ◌++◌, length, map, arith, nat_eq, not, refl, sym, ap, ◌∙◌}
 use Rattle.std.specs.Ordering.{on}
-use Rattle.std.specs.List.{All, AllByRecursion}
-use Rattle.std.proofs.lemmas.Bool.{eq-eqb, eqb-true}
+use Rattle.std.specs.List.{All}
 use Rattle.std.proofs.lemmas.List.Elements.{All-from_recursion}
 use Rattle.std.proofs.lemmas.List.Filters.{length-filter_both}
 use Rattle.warm_stamps.specs.Stamps.{page_cmp}
@@ -12,12 +11,14 @@ use Rattle.warm_stamps.specs.declared.Stamp.{Stamp}
 use Rattle.warm_history.specs.declared.hist.Entry.{Entry}
 use Rattle.warm_history.specs.declared.hist.PageHist.{PageHist}
 use Rattle.warm_history.specs.declared.hist.PageHist.TheVariants.{Once, Twice}
+use Rattle.warm_history.specs.ReferenceSets.{ReferenceSet, set_of_list}
 use Rattle.warm_history.specs.Histories.{history_of_entries_at, references_of}
 use Rattle.warm_history.specs.ListHistories.{hist_stamps, list_references_of, references_of_entry}
 use Rattle.warm_frames.specs.Entries.{FitsInFrame, IsEntryList}
 use Rattle.warm_shards.specs.Clauses.{HasPart}
 use Rattle.warm_shards.specs.Shards.{of_shard, shard_of}
-use Rattle.warm_shards.specs.Parts.{part_of_entries}
+use Rattle.warm_shards.specs.Parts.{part_of_batch, part_of_entries}
+use Rattle.warm_shards.proofs.Dividing.{part_is_own}
 use Rattle.warm_shards.proofs.WholeParts.{parts_hold}
 
 abbrev is_own : ℕ → ℕ → Entry → Bool
@@ -33,75 +34,28 @@ part_fits shards shard es is =
       omega (arith, is.at_most, shorter),
     )
 
--- a part has entries of pages of its shard alone
-pub part_own : (shards shard : ℕ) (es : List Entry)
-    → AllByRecursion (λ e. shard_of shards e.page ≡ shard) (part_of_entries shards shard es)
-part_own shards shard [] = tt
-part_own shards shard (e ∷ es) = cases (nat_eq (shard_of shards e.page) shard) refl (part_own shards shard es)
-  where
-    cases : (b : Bool) → nat_eq (shard_of shards e.page) shard ≡ b
-        → AllByRecursion (λ (x : Entry). shard_of shards x.page ≡ shard) (part_of_entries shards shard es)
-        → AllByRecursion (λ (x : Entry). shard_of shards x.page ≡ shard) (part_of_entries shards shard (e ∷ es))
-    cases true is rest = rw is (eqb-true (shard_of shards e.page) shard is, rest)
-    cases false is rest = rw is rest
-
 pub part_owned : (shards shard : ℕ) (es : List Entry)
     → All (λ e. shard_of shards e.page ≡ shard) (part_of_entries shards shard es)
 part_owned shards shard es =
-    All-from_recursion (λ (e : Entry). shard_of shards e.page ≡ shard) (part_of_entries shards shard es) (part_own shards shard es)
-
--- an entry of a page of the shard is in its part
-pub part_has : (shards shard : ℕ) (es : List Entry) (i : ℕ) (e : Entry) → i < length es
-    → e ≡ get_or es i e → shard_of shards e.page ≡ shard → part_of_entries shards shard es ≢ []
-part_has shards shard [] i e lt at is none = absurd (omega (arith, lt))
-part_has shards shard (x ∷ xs) zero e lt at is none =
-    let own : nat_eq (shard_of shards x.page) shard ≡ true = eq-eqb (shard_of shards x.page) shard (ap (λ (y : Entry). shard_of shards y.page) (sym at) ∙ is) in
-    let no : x ∷ part_of_entries shards shard xs ≡ [] = rw own at none in
-    absurd (cc)
-part_has shards shard (x ∷ xs) (suc i) e lt at is none =
-    cases (nat_eq (shard_of shards x.page) shard) refl none (part_has shards shard xs i e (omega (arith, lt)) at is)
-  where
-    cases : (b : Bool) → nat_eq (shard_of shards x.page) shard ≡ b
-        → part_of_entries shards shard (x ∷ xs) ≡ [] → part_of_entries shards shard xs ≢ [] → ⊥
-    cases true own empty some = let no : x ∷ part_of_entries shards shard xs ≡ [] = rw own at empty in absurd (cc)
-    cases false other empty some = some (rw other at empty)
+    All-from_recursion (λ (e : Entry). shard_of shards e.page ≡ shard) (part_of_entries shards shard es) (part_is_own (λ (e : Entry). e.page) shards shard es)
 
 -- an entry has a stamp
 stamps_some : (h : PageHist) → (s : Stamp) × (ss : List Stamp) × (hist_stamps h ≡ s ∷ ss)
 stamps_some (Once s) = (s, [], refl)
 stamps_some (Twice two) = (two.last, two.prev ∷ [], refl)
 
--- so a part that has an entry has a reference
-pub part_given : (shards shard horizon : ℕ) (es : List Entry) → part_of_entries shards shard es ≢ []
-    → HasPart shards shard (references_of (history_of_entries_at horizon es))
-part_given shards shard horizon es some none =
-    held_some (part_of_entries shards shard es) some (parts_hold shards shard es ∙ none)
-  where
-    held_some : (xs : List Entry) → xs ≢ [] → list_references_of xs ≢ []
-    held_some [] some none = some refl
-    held_some (x ∷ xs) some none =
-        let has = stamps_some x.hist in
-        let first : references_of_entry x ≡ record { page = x.page; stamp = has.0 } ∷ map (λ (s : Stamp). let r : Reference = record { page = x.page; stamp = s } in r) has.1 = ap (λ ss. map (λ (s : Stamp). let r : Reference = record { page = x.page; stamp = s } in r) ss) has.2 in
-        let no : (record { page = x.page; stamp = has.0 } ∷ map (λ (s : Stamp). let r : Reference = record { page = x.page; stamp = s } in r) has.1) ++ list_references_of xs ≡ [] = ap (λ rs. rs ++ list_references_of xs) (sym first) ∙ none in
-        absurd (cc)
-
-pub part_none : (shards shard horizon : ℕ) (es : List Entry) → part_of_entries shards shard es ≡ []
-    → (of_shard shards shard (references_of (history_of_entries_at horizon es))).given ≡ []
-part_none shards shard horizon es none = sym (parts_hold shards shard es) ∙ ap list_references_of none
-
--- a test that finds no entry of the shard, and one that finds some
-pub said_none : (b : Bool) (es : List Entry) → (es ≢ [] → b ≡ true) → b ≡ false → es ≡ []
-said_none b [] said isnt = refl
-said_none b (e ∷ es) said isnt =
-    let is : b ≡ true = said (λ (empty : e ∷ es ≡ []). absurd (cc)) in
-    let both : true ≡ false = sym is ∙ isnt in
+-- so where there are entries, there are references
+pub held_some : (es : List Entry) → (length es ≡ 0 → ⊥) → list_references_of es ≢ []
+held_some [] some none = some refl
+held_some (e ∷ es) some none =
+    let has = stamps_some e.hist in
+    let first : references_of_entry e ≡ record { page = e.page; stamp = has.0 } ∷ map (λ (s : Stamp). let r : Reference = record { page = e.page; stamp = s } in r) has.1 = ap (λ ss. map (λ (s : Stamp). let r : Reference = record { page = e.page; stamp = s } in r) ss) has.2 in
+    let no : (record { page = e.page; stamp = has.0 } ∷ map (λ (s : Stamp). let r : Reference = record { page = e.page; stamp = s } in r) has.1) ++ list_references_of es ≡ [] = ap (λ rs. rs ++ list_references_of es) (sym first) ∙ none in
     absurd (cc)
 
-pub said_some : (count long shard horizon : ℕ) (es : List Entry) → count ≡ long
-    → part_of_entries count shard es ≢ []
-    → HasPart long shard (references_of (history_of_entries_at horizon es))
-said_some count long shard horizon es same some =
-    part_given long shard horizon es (λ none. some (ap (λ n. part_of_entries n shard es) same ∙ none))
+pub held_none : (es : List Entry) → length es ≡ 0 → list_references_of es ≡ []
+held_none [] none = refl
+held_none (e ∷ es) none = absurd (omega (arith, none))
 
 -- the references of a part are those of the whole to pages of the shard
 pub part_refs : (count long shard horizon : ℕ) (es part : List Entry) → count ≡ long
@@ -112,3 +66,19 @@ part_refs count long shard horizon es part same is =
     let here : part ≡ part_of_entries long shard es = is ∙ ap (λ n. part_of_entries n shard es) same in
     let given : list_references_of part ≡ (of_shard long shard (references_of (history_of_entries_at horizon es))).given = ap list_references_of here ∙ parts_hold long shard es in
     λ i. record { horizon = horizon; given = given i }
+
+-- and so it is with a batch
+pub batch_refs : (count long shard : ℕ) (batch part : List Reference) → count ≡ long
+    → part ≡ part_of_batch count shard batch
+    → set_of_list part ≡ of_shard long shard (set_of_list batch)
+batch_refs count long shard batch part same is =
+    ap set_of_list (is ∙ ap (λ n. part_of_batch n shard batch) same)
+
+pub no_items : (rs : List Reference) → length rs ≡ 0 → rs ≡ []
+no_items [] none = refl
+no_items (r ∷ rs) none = absurd (omega (arith, none))
+
+-- a part with references
+pub part_some : (S P : ReferenceSet) (count shard : ℕ) → P ≡ of_shard count shard S → P.given ≢ []
+    → HasPart count shard S
+part_some S P count shard is some none = some (ap (λ (T : ReferenceSet). T.given) is ∙ none)

@@ -3,9 +3,10 @@ use Rattle.std.proofs.Common.{◌≡◌, ℕ, ◌<◌, List, [], length, set, ge
 use Rattle.std.specs.Prelude.{IfErr, OnOk}
 use Rattle.std.proofs.Math.Seq.{map-set_same}
 use Rattle.warm_stamps.specs.declared.PageId.{PageId}
+use Rattle.warm_frame_table.specs.Frames.{fresh_frame, nth_frame}
+use Rattle.warm_frame_table.specs.Lending.{relent}
 use Rattle.warm_pool.specs.declared.slot.Slot.{Slot}
-use Rattle.warm_pool.specs.Frames.{fresh_frame, nth_frame}
-use Rattle.warm_pool.specs.Lending.{relent, relent_pool}
+use Rattle.warm_pool.specs.Lending.{relent_pool}
 use Rattle.warm_pool.specs.State.{PoolState}
 use Rattle.warm_pool.specs.View.{FrameView, PoolView, frame_at, frame_view, view_of}
 use Rattle.warm_gossip.specs.declared.call.Call.{Call}
@@ -18,7 +19,7 @@ use Rattle.warm_gossip.specs.State.{NodeState, NodeView, node_view}
 use Rattle.warm_gossip.proofs.VictimLemmas.{fixes_change, refused}
 use Rattle.warm_shards.specs.Shards.{AreShards, IsShard, shard_at, shard_of}
 use Rattle.warm_shards.proofs.Calls.{HasOnly, next_is_own, only_kept, only_put, pool_shard, read_at}
-use Rattle.warm_shards.proofs.Keeping.{still_shards}
+use Rattle.warm_shards.proofs.AreShardsLemmas.{still_shards}
 
 -- the pool alone has changed, and of its pages this is still true
 pub record OnlyPool (P : PageId → Type 0) (n m : NodeState) : Type 0 where

@@ -4,10 +4,10 @@ use Rattle.std.proofs.Math.ListN.{get_or-map as mapped}
 use Rattle.std.specs.List.{AllByRecursion}
 use Rattle.warm_stamps.specs.declared.PageId.{PageId}
 use Rattle.warm_devices.specs.Device.{DeviceState}
-use Rattle.warm_pool.specs.Frames.{nth_frame}
+use Rattle.warm_frame_table.specs.Frames.{nth_frame}
 use Rattle.warm_pool.specs.State.{IsPool, PoolState, no_device, nth_device}
 use Rattle.warm_pool.specs.View.{FrameView, IsResident, PoolView, frame_at, frame_view, view_of}
-use Rattle.warm_shards.specs.Forming.{AreOwnOf}
+use Rattle.warm_shards.specs.ShardsOfNodes.{AreOwnOf}
 use Rattle.warm_shards.specs.Shards.{HasPagesOf}
 
 abbrev no_frame : FrameView

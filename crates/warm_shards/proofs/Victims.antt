@@ -11,7 +11,7 @@ use Rattle.warm_rank.proofs.KeyLemmas.{keys_order_pages, known_keys_rank}
 use Rattle.warm_pool.specs.View.{FrameView, PoolView, frame_at, unfixed_page, unfixed_pages, view_of}
 use Rattle.warm_gossip.specs.State.{NodeState}
 use Rattle.warm_shards.specs.Shards.{AreShards, shard_at, shard_of, whole}
-use Rattle.warm_shards.proofs.Knowing.{hist_whole}
+use Rattle.warm_shards.proofs.WholeLemmas.{hist_whole}
 
 -- pages of one shard leave in the same order over what it holds and over what all hold
 evicted_alike : (ns : List NodeState) (j : ℕ) (p q : PageId) → AreShards ns → j < length ns

@@ -18,10 +18,10 @@ use Rattle.warm_peer.specs.Answers.{refs_in}
 use Rattle.warm_gossip.specs.State.{NodeState, NodeView}
 use Rattle.warm_shards.specs.Digests.{FillsShard}
 use Rattle.warm_shards.specs.Shards.{AreShards, IsShardCount, no_shard, of_first_shards, of_shard, shard_at, shard_of, whole}
-use Rattle.warm_shards.proofs.Absorbing.{some_count, some_shards}
-use Rattle.warm_shards.proofs.Gathering.{AreGathered, all_gathered, digest_whole, gathered_more}
+use Rattle.warm_shards.proofs.AreShardsLemmas.{some_count, some_shards}
+use Rattle.warm_shards.proofs.DigestLemmas.{AreGathered, all_gathered, digest_whole, gathered_more}
 use Rattle.warm_shards.proofs.PartLemmas.{all_parts, next_part, no_part}
-use Rattle.warm_shards.proofs.Taking.{none_joined, one_takes, whole_more}
+use Rattle.warm_shards.proofs.WholeLemmas.{none_joined, one_takes, whole_more}
 use Rattle.warm_shards.specs.PartLaws.{BatchIsOfParts, DigestsAreGathered, GatheredIsWhole, HistoryIsOfParts, MessageIsOfParts, OneTakesIn}
 use Rattle.warm_shards.specs.Parts.{part_of_entries, part_of_message}
 

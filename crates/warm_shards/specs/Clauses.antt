@@ -2,7 +2,7 @@
 use Rattle.std.specs.Prelude.{◌≡◌, ◌≢◌, ◌⊎◌, ℕ, ◌<◌, List, [], length, Result, Ok, Err, slice_set}
 use Rattle.warm_history.specs.ReferenceSets.{ReferenceSet, ◌∪◌}
 use Rattle.warm_history.specs.Histories.{HistoryView, history, join, references_of}
-use Rattle.warm_pool.specs.Keeping.{KeepsBytes}
+use Rattle.warm_pool.specs.Unchanged.{KeepsBytes}
 use Rattle.warm_pool.specs.View.{PoolView, view_of}
 use Rattle.warm_gossip.specs.declared.call.Call.{Call}
 use Rattle.warm_gossip.specs.declared.call.Reply.{Reply}
@@ -33,6 +33,12 @@ TogetherAnswered old call reply (Err why) new = Together old call (Refused why) 
 abbrev pub JoinsAll : List NodeState → HistoryView → List NodeState → Type 0
 JoinsAll old other new = (pool : PoolView)
     → as_node new pool ≡ record (as_node old pool) { history = join (whole old) other }
+
+-- all shards together have taken in the references of S, at the later horizon of both, as one node
+-- does
+abbrev pub TakesInAll : List NodeState → ReferenceSet → List NodeState → Type 0
+TakesInAll old S new = (pool : PoolView) → as_node new pool
+    ≡ record (as_node old pool) { history = history (references_of (whole old) ∪ S) }
 
 -- some reference of S is to a page of this shard
 abbrev pub HasPart : ℕ → ℕ → ReferenceSet → Type 0

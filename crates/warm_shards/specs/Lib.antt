@@ -1,10 +1,11 @@
 pub mod Shards
 pub mod Clauses
+pub mod Given
 pub mod Digests
 pub mod Dividing
 pub mod Lending
 pub mod Parts
-pub mod Through
-pub mod Forming
+pub mod EachShard
+pub mod ShardsOfNodes
 pub mod Laws
 pub mod PartLaws

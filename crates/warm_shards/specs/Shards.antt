@@ -9,7 +9,7 @@ use Rattle.warm_stamps.specs.Buckets.{page_bucket}
 use Rattle.warm_history.specs.ReferenceSets.{ReferenceSet, set_of_list, filter_references, ◌∪◌}
 use Rattle.warm_history.specs.Histories.{HistoryView, IsHistory, entries_of, history}
 use Rattle.warm_history.specs.Histories.{references_of}
-use Rattle.warm_pool.specs.Counting.{resident_pages}
+use Rattle.warm_pool.specs.Residents.{resident_pages}
 use Rattle.warm_pool.specs.State.{fresh_pool}
 use Rattle.warm_pool.specs.View.{PoolView, frame_at, view_of}
 use Rattle.warm_gossip.specs.State.{NodeState, NodeView, node_view, opened_node}

@@ -8,6 +8,7 @@ ghost use Rattle.warm_gossip.specs.declared.call.Reply.TheVariants.{Answers, Sen
 ghost use Rattle.warm_gossip.specs.declared.fault.NodeFault.TheVariants.{Memory};
 ghost use Rattle.warm_shards.specs.Clauses.{JoinsAll, KeepPools, SameShards, TakesInFirst};
 ghost use Rattle.warm_shards.specs.Clauses.{Together, TogetherAnswered};
+ghost use Rattle.warm_shards.specs.Given.{Gives};
 ghost use Rattle.warm_shards.specs.Shards.{AreShards, shard_at, whole};
 
 use crate::answers::{answer_to_digests, answered, gathered, requested};
@@ -71,11 +72,7 @@ fn join_all<D: PageDevice>(
     other: &History,
 ) -> Result<(), NodeFault>
     requires { AreShards nodes.old.items }
-    ensures shards { AreShards nodes.new.items }
-    ensures joined { OnOk result (JoinsAll nodes.old.items other.now nodes.new.items) }
-    ensures refused { IfErr result (λ why. (why ≡ Memory)
-        × TakesInFirst nodes.old.items (references_of other.now) nodes.new.items) }
-    ensures pools { KeepPools nodes.old.items nodes.new.items }
+    ensures { Gives (references_of other.now) nodes.old.items result nodes.new.items }
 {
     raise_all(nodes, other.horizon());
     let entries = entries_of(alloc, other)?;

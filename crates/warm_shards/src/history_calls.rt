@@ -7,10 +7,12 @@ ghost use Rattle.warm_gossip.specs.declared.call.Reply.TheVariants.{Done, Kept, 
 ghost use Rattle.warm_gossip.specs.declared.fault.NodeFault.TheVariants.{Memory};
 ghost use Rattle.warm_shards.specs.Clauses.{KeepPools, TakesInFirst, Together};
 ghost use Rattle.warm_shards.specs.Clauses.{TogetherAnswered};
-ghost use Rattle.warm_shards.specs.Shards.{AreShards, shard_of};
+ghost use Rattle.warm_shards.specs.Given.{AreGiven, Gives, at_horizon};
+ghost use Rattle.warm_shards.specs.Shards.{AreShards, shard_of, whole};
 
+use crate::batch_parts::{only_shard, parts_of};
+use crate::each_shard::raise_first;
 use crate::shards::Shards;
-use crate::splitting::{only_shard, parts_of};
 use std::alloc::Global;
 use warm_devices::PageDevice;
 use warm_gossip::{Node, NodeFault};
@@ -27,15 +29,9 @@ fn absorb_alone<D: PageDevice>(
     requires there { shard < length nodes.old.items }
     requires own { AllByRecursion (λ r. shard_of (length nodes.old.items) r.page ≡ shard)
         batch.now }
-    ensures shards { AreShards nodes.new.items }
-    ensures absorbed { OnOk result (Together nodes.old.items (Absorb batch.now) Done
-        nodes.new.items) }
-    ensures refused { IfErr result (λ why. (why ≡ Memory)
-        × TakesInFirst nodes.old.items (set_of_list batch.now) nodes.new.items) }
-    ensures pools { KeepPools nodes.old.items nodes.new.items }
+    ensures { Gives (set_of_list batch.now) nodes.old.items result nodes.new.items }
 {
-    nodes[shard].absorb(batch)?;
-    Ok(())
+    nodes[shard].absorb(batch)
 }
 
 // Each node absorbs its part of the batch, shard by shard up to the first that refuses its part.
@@ -45,12 +41,7 @@ fn absorb_each<D: PageDevice>(
     batch: &[Reference],
 ) -> Result<(), NodeFault>
     requires { AreShards nodes.old.items }
-    ensures shards { AreShards nodes.new.items }
-    ensures absorbed { OnOk result (Together nodes.old.items (Absorb batch.now) Done
-        nodes.new.items) }
-    ensures refused { IfErr result (λ why. (why ≡ Memory)
-        × TakesInFirst nodes.old.items (set_of_list batch.now) nodes.new.items) }
-    ensures pools { KeepPools nodes.old.items nodes.new.items }
+    ensures { Gives (set_of_list batch.now) nodes.old.items result nodes.new.items }
 {
     let count = nodes.len();
     let parts = parts_of(alloc, batch, count)?;
@@ -71,12 +62,7 @@ fn absorb_parts<D: PageDevice>(
     batch: &[Reference],
 ) -> Result<(), NodeFault>
     requires { AreShards nodes.old.items }
-    ensures shards { AreShards nodes.new.items }
-    ensures absorbed { OnOk result (Together nodes.old.items (Absorb batch.now) Done
-        nodes.new.items) }
-    ensures refused { IfErr result (λ why. (why ≡ Memory)
-        × TakesInFirst nodes.old.items (set_of_list batch.now) nodes.new.items) }
-    ensures pools { KeepPools nodes.old.items nodes.new.items }
+    ensures { Gives (set_of_list batch.now) nodes.old.items result nodes.new.items }
 {
     if let Some(shard) = only_shard(batch, nodes.len()) {
         return absorb_alone(nodes, shard, batch);
@@ -84,17 +70,14 @@ fn absorb_parts<D: PageDevice>(
     absorb_each(alloc, nodes, batch)
 }
 
-// Raises the horizon of each node.
+// Raises the horizon of each node, and returns that of all.
 pub(crate) fn raise_all<D: PageDevice>(nodes: &mut Vec<Node<D>>, time: u64) -> u64
     requires { AreShards nodes.old.items }
-    ensures shards { AreShards nodes.new.items }
-    ensures step { Together nodes.old.items (Horizon time) (Kept result) nodes.new.items }
-    ensures pools { KeepPools nodes.old.items nodes.new.items }
+    ensures given { AreGiven (at_horizon time) nodes.old.items nodes.new.items }
+    ensures kept { result ≡ (whole nodes.new.items).horizon }
 {
     let count = nodes.len();
-    for shard in 0..count {
-        nodes[shard].raise(time);
-    }
+    raise_first(nodes, count, time);
     nodes[0].history().horizon()
 }
 

@@ -1,13 +1,11 @@
 //! How entries are taken in, each by the shard of its page.
-ghost use Rattle.std.specs.Prelude.{◌≡◌, ◌<◌, ◌≤◌, length, IfErr, OnOk};
+ghost use Rattle.std.specs.Prelude.{◌≡◌, ◌<◌, ◌≤◌, length};
 ghost use Rattle.std.specs.List.{AllByRecursion};
 ghost use Rattle.warm_history.specs.Histories.{history_of_entries_at, references_of};
-ghost use Rattle.warm_gossip.specs.declared.fault.NodeFault.TheVariants.{Memory};
-ghost use Rattle.warm_shards.specs.Clauses.{JoinsAll, KeepPools, TakesInFirst};
+ghost use Rattle.warm_shards.specs.Given.{Gives};
 ghost use Rattle.warm_shards.specs.Shards.{AreShards, shard_at, shard_of};
 
-use crate::parts::{has_part, part_of_entries};
-use crate::splitting::only_shard;
+use crate::batch_parts::{only_shard, parts_of};
 use std::alloc::Global;
 use warm_devices::PageDevice;
 use warm_gossip::{Node, NodeFault};
@@ -25,18 +23,14 @@ fn join_alone<D: PageDevice>(
     requires own { AllByRecursion (λ e. shard_of (length nodes.old.items) e.page ≡ shard)
         entries.now }
     requires raised { horizon ≤ (shard_at nodes.old.items 0).history.horizon }
-    ensures shards { AreShards nodes.new.items }
-    ensures joined { OnOk result (JoinsAll nodes.old.items
-        (history_of_entries_at horizon entries.now) nodes.new.items) }
-    ensures refused { IfErr result (λ why. (why ≡ Memory) × TakesInFirst nodes.old.items
-        (references_of (history_of_entries_at horizon entries.now)) nodes.new.items) }
-    ensures pools { KeepPools nodes.old.items nodes.new.items }
+    ensures { Gives (references_of (history_of_entries_at horizon entries.now)) nodes.old.items
+        result nodes.new.items }
 {
     nodes[shard].join_entries(horizon, entries)
 }
 
-// Each node takes in the entries of its pages, shard by shard up to the first that refuses them. All
-// shards have the horizon.
+// Each node takes in the entries of its pages, shard by shard up to the first that refuses them.
+// All shards have the horizon.
 fn join_each<D: PageDevice>(
     alloc: Global,
     nodes: &mut Vec<Node<D>>,
@@ -45,20 +39,17 @@ fn join_each<D: PageDevice>(
 ) -> Result<(), NodeFault>
     requires shards { AreShards nodes.old.items }
     requires raised { horizon ≤ (shard_at nodes.old.items 0).history.horizon }
-    ensures shards { AreShards nodes.new.items }
-    ensures joined { OnOk result (JoinsAll nodes.old.items
-        (history_of_entries_at horizon entries.now) nodes.new.items) }
-    ensures refused { IfErr result (λ why. (why ≡ Memory) × TakesInFirst nodes.old.items
-        (references_of (history_of_entries_at horizon entries.now)) nodes.new.items) }
-    ensures pools { KeepPools nodes.old.items nodes.new.items }
+    ensures { Gives (references_of (history_of_entries_at horizon entries.now)) nodes.old.items
+        result nodes.new.items }
 {
     let count = nodes.len();
+    let parts = parts_of(alloc, entries, count)?;
     for shard in 0..count {
-        if !has_part(entries, count, shard) {
+        let part = parts[shard].as_slice();
+        if part.is_empty() {
             continue;
         }
-        let part = part_of_entries(alloc, entries, count, shard)?;
-        nodes[shard].join_entries(horizon, &part)?;
+        nodes[shard].join_entries(horizon, part)?;
     }
     Ok(())
 }
@@ -73,12 +64,8 @@ pub(crate) fn join_parts<D: PageDevice>(
 ) -> Result<(), NodeFault>
     requires shards { AreShards nodes.old.items }
     requires raised { horizon ≤ (shard_at nodes.old.items 0).history.horizon }
-    ensures shards { AreShards nodes.new.items }
-    ensures joined { OnOk result (JoinsAll nodes.old.items
-        (history_of_entries_at horizon entries.now) nodes.new.items) }
-    ensures refused { IfErr result (λ why. (why ≡ Memory) × TakesInFirst nodes.old.items
-        (references_of (history_of_entries_at horizon entries.now)) nodes.new.items) }
-    ensures pools { KeepPools nodes.old.items nodes.new.items }
+    ensures { Gives (references_of (history_of_entries_at horizon entries.now)) nodes.old.items
+        result nodes.new.items }
 {
     if let Some(shard) = only_shard(entries, nodes.len()) {
         return join_alone(nodes, shard, horizon, entries);

@@ -15,22 +15,23 @@
 #![tactic(auto)]
 
 mod answers;
+mod batch_parts;
+mod each_shard;
 mod engine_calls;
 mod fault;
-mod forming;
 mod gossip;
 mod history_calls;
 mod joining;
 pub mod laws;
 mod lending;
-mod parts;
+mod message_parts;
 mod pool_calls;
 mod shards;
-mod splitting;
-mod through;
+mod shards_of_nodes;
 
 pub use answers::fill_digests;
+pub use batch_parts::parts_of;
 pub use fault::{ShardsError, ShardsFault};
-pub use parts::{part_of_entries, part_of_message};
+pub use message_parts::{part_of_entries, part_of_message};
 pub use pool_calls::ShardSlot;
 pub use shards::{Shards, frames_of_shard, is_shard_count, shard_of};

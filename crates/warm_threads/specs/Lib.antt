@@ -5,6 +5,6 @@ pub mod Steps
 pub mod Plans
 pub mod Exchanges
 pub mod Works
-pub mod Shown
-pub mod Played
+pub mod ReplicaTexts
+pub mod Plays
 pub mod Refusals

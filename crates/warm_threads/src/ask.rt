@@ -77,7 +77,7 @@ fn ask_of(setup: Setup, request: WorkerRequest) -> Result<Ask, NotPlayable>
     }
 }
 
-/// The request of a line. `None` where it has no word or is a comment.
+/// The request of a line. `None` if it has no word or is a comment.
 pub(crate) fn asked(setup: Setup, line: &[u8]) -> Result<Option<Ask>, NotPlayable>
     ensures { result ≡ asked setup line.now }
 {

@@ -13,8 +13,8 @@ ghost use Rattle.warm_world.specs.declared.play_fault.PlayFault.TheVariants.{Bad
 ghost use Rattle.warm_world.specs.declared.play_fault.PlayFault.TheVariants.{WriteFault};
 ghost use Rattle.warm_threads.specs.Asks.{asks, first_bad};
 ghost use Rattle.warm_threads.specs.Plans.{AreJobsOf};
-ghost use Rattle.warm_threads.specs.Shown.{replica_text, replicas_text};
-ghost use Rattle.warm_threads.specs.Played.{PlayedInThreads};
+ghost use Rattle.warm_threads.specs.ReplicaTexts.{replica_text, replicas_text};
+ghost use Rattle.warm_threads.specs.Plays.{PlayedInThreads};
 ghost use Rattle.warm_threads.specs.Refusals.{ThreadsPlayRefused, StopsThreads, ThreadsRefused};
 ghost use Rattle.warm_threads.specs.Works.{Went};
 
@@ -138,7 +138,7 @@ fn play_over<M: BatchMachine + Send + Drop, T: Threads + Wait + Sync, R: Read>(
 /// lines in their order: a full buffer is flushed before a further reference, and each buffer is
 /// flushed at the end. After all have ended, each replica sends every bucket whole to each other,
 /// and then a Stop. After all have sent, each receives what was sent to it, until it has received a
-/// Stop of each other replica or 1,000,000 items. Replicas do so in threads of their own where
+/// Stop of each other replica or 1,000,000 items. Replicas do so in threads of their own if
 /// these can be started. It may wait. A message is encoded once, and all its receivers share its
 /// bytes: beside the histories, the sent messages take the memory of one encoded copy of each
 /// history.
@@ -156,7 +156,7 @@ fn play_over<M: BatchMachine + Send + Drop, T: Threads + Wait + Sync, R: Read>(
 ///
 /// Of the faults of the threads (`ReplicaRunFault`), `Memory` is returned as `Memory`, and
 /// `NoThread` and `Closed` as `NoThread`. In each case all devices are dropped. Nothing was
-/// written, except for `WriteFault`, where it is unspecified how much was.
+/// written, except for `WriteFault`, after which it is unspecified how much was.
 pub fn play_threads<D, T, R, W>(
     rt: &T,
     alloc: Global,

@@ -2,7 +2,7 @@
 ghost use Rattle.std.specs.Prelude.{◌≡◌, ◌≢◌, ◌↔◌, ◌≤◌, length, map};
 ghost use Rattle.std.specs.Prelude.{IfErr, IfOk, IfSome, IsNone, Err, Ok};
 ghost use Rattle.std.specs.List.{All};
-ghost use Rattle.warm_replica.specs.declared.fan.TheConstants.{MAX_JOBS};
+ghost use Rattle.warm_replica.specs.declared.job_threads.TheConstants.{MAX_JOBS};
 ghost use Rattle.warm_replica.specs.Pairs.{Pairs};
 ghost use Rattle.warm_threads.specs.declared.fault.ReplicaRunFault.TheVariants.{Closed};
 ghost use Rattle.warm_threads.specs.Exchanges.{IsReceipt, SendsAll};

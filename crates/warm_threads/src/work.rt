@@ -1,7 +1,7 @@
 //! The workers of a replica, each in a thread of its own.
 ghost use Rattle.std.specs.Prelude.{◌≡◌, ◌↔◌, ◌≤◌, length, IsTrue, IfOk};
 ghost use Rattle.std.specs.List.{All};
-ghost use Rattle.warm_replica.specs.declared.fan.TheConstants.{MAX_JOBS};
+ghost use Rattle.warm_replica.specs.declared.job_threads.TheConstants.{MAX_JOBS};
 ghost use Rattle.warm_replica.specs.Replied.{AreTaken};
 ghost use Rattle.warm_threads.specs.Works.{Works};
 

@@ -12,7 +12,7 @@
 //! - [`Turn::call`] makes a call. Its list begins with all that the pass had seen and ends with it.
 //! - [`Turn::visit`] lets a [`Visit`] have the machine itself for one turn. The visitor says by a
 //!   call and a reply what it did, and the visit stands in the list as that call.
-//!   [`Turn::try_visit`] does so where it need not wait, and else gives the visitor back.
+//!   [`Turn::try_visit`] does so if it need not wait, and else gives the visitor back.
 //! - By [`Turn::note`] and [`Turn::learn`] one pass learns what another has seen, and [`Turn::end`]
 //!   ends a pass into another. Both lists begin the new one.
 //! - [`Turn::opening_note`] is for code that was given a turn and a pass: contracts then know that
@@ -29,9 +29,10 @@
 //! TOPLAS 1990), is not specified. Nor are progress, fairness and waiting times, and an operation
 //! does not prove that its caller still runs.
 //!
-//! Passes, notes and turns may cross threads where the machine may: for a function that is generic
-//! in `M: Machine + Send` the lemmas are in `proofs/Sent.antt`. Lemmas on what calls, notes and
-//! ends say of a pass are in `proofs/Passes.antt`, and lemmas on shares in `proofs/Shares.antt`.
+//! Passes, notes and turns may cross threads if the machine may: for a function that is generic in
+//! `M: Machine + Send` the lemmas are in `proofs/SendLemmas.antt`. Lemmas on what calls, notes and
+//! ends say of a pass are in `proofs/PassLemmas.antt`, and lemmas on shares in
+//! `proofs/ShareLemmas.antt`.
 #![tactic(auto)]
 
 mod counter;

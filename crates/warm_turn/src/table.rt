@@ -1,6 +1,7 @@
-//! The table that the passes share: two words and a slot.
+//! The table that the passes share: two words and a cell.
 //!
-//! Word 0 is the next ticket, and word 1 the ticket that is served. The slot is the machine's cell.
+//! Word 0 is the next ticket, and word 1 the ticket that is served. The cell, in the one slot
+//! of the table, is for the machine.
 ghost use Rattle.std.specs.Prelude.{◌≡◌, IfOk, IfErr};
 
 use crate::fault::Memory;
@@ -37,7 +38,7 @@ pub struct View<X, C, R> {
     pub owns: bool,
     /// A ticket was taken and the turn is not passed on yet.
     pub waits: bool,
-    /// This seat has taken the machine out of the slot.
+    /// This seat has taken the machine out of its cell.
     pub serves: bool,
     /// The last number, `u64::MAX`, was found in the ticket word.
     pub found_last: bool,
@@ -45,7 +46,7 @@ pub struct View<X, C, R> {
     pub share: Share,
     /// The number of the pass, which no other pass of the turn has.
     pub number: u64,
-    /// The ticket, where one was taken.
+    /// The ticket, if one was taken.
     pub ticket: u64,
     /// The turn's opening state.
     pub opening: Option<X>,
@@ -72,7 +73,7 @@ pub struct CallMade<C, R> {
     pub reply: Snapshot<R>,
 }
 
-/// A machine in a heap box: each turn takes it out of the slot and puts it back, which moves only a
+/// A machine in a heap box: each turn takes it out of its cell and puts it back, which moves only a
 /// pointer. Contracts see the machine.
 #[derive(Drop)]
 pub struct BoxedMachine<M> {

@@ -27,7 +27,7 @@ use warm_machine::Machine;
 /// Contracts see its table (`table`), and its opening state (`opening`). A pass or a note belongs
 /// to the turn whose table it has; each call requires that.
 ///
-/// A turn that is dropped drops the machine in its slot. [`Turn::close`] gives it back.
+/// A turn that is dropped drops the machine in its cell. [`Turn::close`] gives it back.
 #[derive(Drop)]
 pub struct Turn<M: Machine> {
     table: TicketTable<M>,
@@ -53,8 +53,8 @@ impl<M: Machine> Model for Turn<M> {
 /// of the passes that were ended into it, `ended`. The operations that `seen` has of each of these
 /// numbers are exactly that pass's calls, each once, in their order, and no number occurs twice.
 ///
-/// Its mark, `found_last`, says that it was refused with [`TurnsSpent`]. It stays, and a pass that
-/// has it is never answered again. It may still learn, be ended and close the turn.
+/// Its `found_last` says that it is spent: it was refused with [`TurnsSpent`]. A spent pass is never
+/// answered again. It may still learn, be ended and close the turn.
 ///
 /// It has a `share` of the right to close the turn. All passes together have the whole right.
 ///
@@ -249,7 +249,7 @@ impl<M: Machine> Pass<M> {
 
 impl<M: Machine> Turn<M> {
     /// A turn over the machine, and its first pass, which has seen nothing and made no call. The
-    /// turn opens with the machine's state. `Memory`, which occurs only where an allocation failed,
+    /// turn opens with the machine's state. `Memory`, which occurs only if an allocation failed,
     /// gives the machine back unchanged.
     pub fn new(alloc: Global, machine: M) -> Result<(Turn<M>, Pass<M>), Memory<M>>
         ensures table { IfOk result (λ t. t.1.table ≡ t.0.table) }
@@ -326,7 +326,8 @@ impl<M: Machine> Turn<M> {
 
     /// Learns what the note has seen. Afterwards both the pass's earlier list and the note's list
     /// are prefixes of the pass's list, which may have further operations of other passes. Both
-    /// have the same opening state. Its own calls, those that it holds and its mark stay.
+    /// have the same opening state. Its own calls and those that it holds stay. It is spent if it
+    /// was.
     pub fn learn(&self, pass: &mut Pass<M>, note: Note<M>)
         requires { (pass.old.table ≡ self.now.table) × (note.table ≡ self.now.table) }
         ensures table { pass.new.table ≡ self.now.table }
@@ -340,7 +341,7 @@ impl<M: Machine> Turn<M> {
     /// Ends the other pass into this one. This pass's list then begins with what both had seen, and
     /// it holds the other's number and calls, and those that the other held. All these numbers
     /// differ. Both have the same opening state. This pass's share of the right to close becomes
-    /// the sum of both. Its own calls and its mark stay, and the other's mark is dropped.
+    /// the sum of both. Its own calls stay. It is spent if it was, whether the other was or not.
     pub fn end(&self, pass: &mut Pass<M>, other: Pass<M>)
         requires { (pass.old.table ≡ self.now.table) × (other.table ≡ self.now.table) }
         ensures table { pass.new.table ≡ self.now.table }
@@ -351,10 +352,10 @@ impl<M: Machine> Turn<M> {
         self.table.shared.load::<CatchUp>(&mut pass.seat, 0);
     }
 
-    /// Visits the machine as [`Turn::visit`] does, where the turn is free at once. Otherwise the
+    /// Visits the machine as [`Turn::visit`] does, if the turn is free at once. Otherwise the
     /// visitor comes back, which has not run, and the pass is unchanged. It does not wait.
     ///
-    /// It is for callers that have more to do where they must wait: most visits wait for nobody, and
+    /// It is for callers that have more to do if they must wait: most visits wait for nobody, and
     /// such a caller's own slow way then takes no room beside this one.
     #[inline(always)]
     pub fn try_visit<V: Visit<M>>(&self, pass: &mut Pass<M>, visitor: V) -> Result<V::Output, V>
@@ -381,11 +382,11 @@ impl<M: Machine> Turn<M> {
     ///
     /// The visit is one operation of the history, by the call and the reply that say what the
     /// visitor did: the pass's list begins with the list that it had and ends with this operation,
-    /// which is added to its own calls. A pass whose visitor was let in had no mark, and has none.
+    /// which is added to its own calls. A pass whose visitor was let in was not spent, and is not.
     ///
-    /// `TurnsSpent`, which occurs only where this pass found `u64::MAX` in the ticket word, gives
+    /// `TurnsSpent`, which occurs only if this pass found `u64::MAX` in the ticket word, gives
     /// the visitor back, which has not run, adds no operation and leaves the pass unchanged except
-    /// for the mark. The waiting time is not specified: a visit may wait forever, for example where
+    /// that it is spent. The waiting time is not specified: a visit may wait forever, for example if
     /// an earlier visitor never returns.
     pub fn visit<R: Wait, V: Visit<M>>(
         &self,
@@ -411,11 +412,11 @@ impl<M: Machine> Turn<M> {
     ///
     /// The reply is the machine's at this point of the history: the pass's list begins with the
     /// list that it had and ends with the call and its reply, which is added to its own calls. A
-    /// pass that is answered had no mark, and has none.
+    /// pass that is answered was not spent, and is not.
     ///
     /// `TurnsSpent` occurs as at [`Turn::visit`]. It gives the call back, which the machine has not
-    /// seen, adds no operation and leaves the pass unchanged except for the mark. The waiting time
-    /// is not specified: a call may wait forever, for example where an earlier call of the machine
+    /// seen, adds no operation and leaves the pass unchanged except that it is spent. The waiting
+    /// time is not specified: a call may wait forever, for example if an earlier call of the machine
     /// never returns.
     // Inlined, so that a machine that does something else for each kind of call need not test of
     // which kind a call is: at the place of the call that is known.
@@ -446,13 +447,13 @@ impl<M: Machine> Turn<M> {
     /// Gives the machine back. Its state is one that a legal history reaches from the opening
     /// state. That history begins with the pass's list, and has no further operation of any number
     /// that the pass holds: it contains all calls of the passes that were ended into it.
-    /// Where the pass has the whole right to close, it holds the number of each operation: the
+    /// If the pass has the whole right to close, it holds the number of each operation: the
     /// history has no other calls.
     ///
-    /// `Busy` occurs only where fewer tickets were served than were taken. Its words are those of a
+    /// `Busy` occurs only if fewer tickets were served than were taken. Its words are those of a
     /// state that the rule of the turn allows, in which a pass knows what this one does: the
     /// history has one call for each served ticket. The turn and the pass are consumed, and a
-    /// machine in the slot is dropped.
+    /// machine in the cell is dropped.
     ///
     /// A pass with the whole right to close gets the machine back: it is the only pass, so nobody
     /// waits. The first pass has the whole right, and has it again once all others were ended into

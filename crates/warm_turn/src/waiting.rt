@@ -1,6 +1,6 @@
 //! Taking a ticket, and waiting until it is served.
 //!
-//! Both are tried once without waiting, which is enough where nobody else uses the machine. What
+//! Both are tried once without waiting, which is enough if nobody else uses the machine. What
 //! polls and sleeps may wait, and each call of a function that may costs a look at a flag.
 ghost use Rattle.std.specs.Prelude.{◌≡◌, ◌+◌, ◌<◌, ◌^◌, true, false, [], IfSome, IfNone, IsTrue};
 ghost use Rattle.warm_turn.specs.CallHistories.{IsPass, marked};

@@ -9,8 +9,8 @@ use Rattle.warm_gossip.specs.State.{NodeView}
 use Rattle.warm_world.specs.Views.{ReplicaView, WorldView}
 use Rattle.warm_world.specs.Lists.{index_of_number}
 use Rattle.warm_world.specs.States.{ModelState, ReplicaState, reach_of, no_replica}
-use Rattle.warm_world.specs.Stands.{Alike, WorldStands, ReplicaStands, HistoriesAreExact}
-use Rattle.warm_world.specs.Stands.{ReplicasAgree}
+use Rattle.warm_world.specs.WorldStands.{Alike, WorldStands, ReplicaStands, HistoriesAreExact}
+use Rattle.warm_world.specs.WorldStands.{ReplicasAgree}
 use Rattle.warm_world.proofs.Pairs.{Pairwise-map}
 
 pub histories_are_exact : (w : WorldView) (m : ModelState) → WorldStands w m → HistoriesAreExact w m

@@ -13,7 +13,7 @@ use Rattle.warm_world.specs.declared.event.Answer.TheVariants.{Pages, Refused}
 use Rattle.warm_world.specs.declared.event.WorldFault.TheVariants.{Node, NoSuchReplica, NoSuchWorker, NoSuchFrame}
 use Rattle.warm_world.specs.Lists.{index_of_number}
 use Rattle.warm_world.specs.States.{ModelState, ReplicaState, replica_node, no_replica, pool_of, reach_of, set_pool}
-use Rattle.warm_world.specs.Next.{IsNamed, Next, SomeNodeReplies, call_of, replica_of, reply_of, shape}
+use Rattle.warm_world.specs.Effects.{IsNamed, Next, SomeNodeReplies, call_of, replica_of, reply_of, shape}
 
 -- a pool that is put back is no change
 pub pool_kept : (m : ModelState) (i : ℕ) → set_pool m i (pool_of m i) ≡ m

@@ -13,7 +13,7 @@ use Rattle.warm_pool.specs.State.{IsSettled}
 use Rattle.warm_world.specs.declared.world.World.{World}
 use Rattle.warm_world.specs.Views.{AreSameBut, AreSameFrom, AreSettledBefore, IsSettledBefore, ReplicaView, WorldView, world_view}
 use Rattle.warm_world.specs.States.{ReplicaState, no_replica, replica, set_replica}
-use Rattle.warm_world.specs.Stands.{CountsFailure, ReplicaStands, WorldStands}
+use Rattle.warm_world.specs.WorldStands.{CountsFailure, ReplicaStands, WorldStands}
 use Rattle.warm_world.proofs.Pairs.{Pairwise-set}
 use Rattle.warm_world.proofs.Worlds.{shown_at, world, world_stays}
 

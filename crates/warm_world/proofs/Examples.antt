@@ -7,8 +7,8 @@ use Rattle.warm_history.specs.ReferenceSets.{set_of_list, with_horizon}
 use Rattle.warm_history.specs.Histories.{HistoryView, history_of_entries, history}
 use Rattle.warm_history.specs.Carried.{carried}
 use Rattle.warm_world.specs.States.{ModelState, ReplicaState, References, Request, Digests, no_pool, raised_replica, referred, flushed, restarted}
-use Rattle.warm_world.specs.Answered.{bucket_records, reach_after}
-use Rattle.warm_world.specs.Next.{NodeReplies, Effect, RefusesEvent, stamped}
+use Rattle.warm_world.specs.GossipAnswers.{bucket_records, reach_after}
+use Rattle.warm_world.specs.Effects.{NodeReplies, Effect, RefusesEvent, stamped}
 use Rattle.warm_world.specs.declared.event.Event.TheVariants.{Pin, Unpin, Put, Get, Victim, WarmStep, Horizon}
 use Rattle.warm_world.specs.declared.event.Answer.TheVariants.{Done, Pinned, Bytes, Page, Loaded}
 use Rattle.warm_gossip.specs.declared.call.Call.TheVariants as call

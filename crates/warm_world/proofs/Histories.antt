@@ -24,8 +24,8 @@ use Rattle.warm_gossip.specs.State.{NodeView}
 use Rattle.warm_peer.proofs.ChunkLemmas.{chunks_in_turn}
 use Rattle.warm_peer.proofs.RoundLemmas.{entries_bring_all}
 use Rattle.warm_world.specs.States.{MessageRecord, ModelState, References, Digests, Request, replica_node, reach_of}
-use Rattle.warm_world.specs.Answered.{AreAnswers, bucket_records, reach_after, records_of, requested_records}
-use Rattle.warm_world.specs.Stands.{message_kept}
+use Rattle.warm_world.specs.GossipAnswers.{AreAnswers, bucket_records, reach_after, records_of, requested_records}
+use Rattle.warm_world.specs.WorldStands.{message_kept}
 
 own_history : (S : ReferenceSet) → history (references_of (history S)) ≡ history S
 own_history S = same_hists (references_of (history S)) S (horizon-history S) (hist_refs-history S)

@@ -17,8 +17,8 @@ use Rattle.warm_world.specs.Replicas.{EncodesMessage, Keeps}
 use Rattle.warm_world.specs.Views.{WorldView}
 use Rattle.warm_world.specs.States.{ModelState, MessageRecord, add_records, record_at, References}
 use Rattle.warm_history.specs.ReferenceSets.{set_of_list}
-use Rattle.warm_world.specs.Next.{Next}
-use Rattle.warm_world.specs.Stands.{EncodesRecord, Stepped, WorldStands, message_kept}
+use Rattle.warm_world.specs.Effects.{Next}
+use Rattle.warm_world.specs.WorldStands.{EncodesRecord, Stepped, WorldStands, message_kept}
 use Rattle.warm_world.proofs.Pairs.{Pairwise-append, Pairwise-push}
 
 -- one message more is encoded

@@ -15,7 +15,7 @@ use Rattle.warm_world.specs.Opening.{AreFew, AreSized, devices_at}
 use Rattle.warm_world.specs.Views.{ReplicaView}
 use Rattle.warm_world.specs.Sizes.{Sizes}
 use Rattle.warm_world.specs.States.{opened_over}
-use Rattle.warm_world.specs.Stands.{ReplicaStands}
+use Rattle.warm_world.specs.WorldStands.{ReplicaStands}
 use Rattle.warm_world.proofs.Pairs.{Pairwise-push}
 
 -- ---- the devices of each list

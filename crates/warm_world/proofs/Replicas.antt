@@ -21,7 +21,7 @@ use Rattle.warm_world.specs.Sizes.{Sizes}
 use Rattle.warm_world.specs.Views.{ReplicaView}
 use Rattle.warm_refbuffer.specs.declared.Full.{Full}
 use Rattle.warm_refbuffer.specs.Buffered.{Buffered, cleared, with_last}
-use Rattle.warm_world.specs.Stands.{ReplicaStands, buffered}
+use Rattle.warm_world.specs.WorldStands.{ReplicaStands, buffered}
 
 pub buffer_at : (capacity : ℕ) (bs : List Buffered) (ps : List (List Reference)) (w : ℕ)
     (d : Buffered) → bs ≡ map (buffered capacity) ps → w < length bs

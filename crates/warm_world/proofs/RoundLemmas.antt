@@ -20,9 +20,9 @@ use Rattle.warm_world.specs.declared.event.Answer.{Answer}
 use Rattle.warm_world.specs.declared.event.Answer.TheVariants.{FrameNo, Took, Refused}
 use Rattle.warm_world.specs.Lists.{index_of_number}
 use Rattle.warm_world.specs.States.{ModelState, MessageRecord, References, Digests, Request, ReplicaState, add_records, no_replica, replica, reach_of, record_at}
-use Rattle.warm_world.specs.Answered.{AreAnswers, reach_after}
-use Rattle.warm_world.specs.Next.{Next, Run, Delivered, IsNamed, shape}
-use Rattle.warm_world.specs.Stands.{message_kept}
+use Rattle.warm_world.specs.GossipAnswers.{AreAnswers, reach_after}
+use Rattle.warm_world.specs.Effects.{Next, Run, Delivered, IsNamed, shape}
+use Rattle.warm_world.specs.WorldStands.{message_kept}
 use Rattle.std.proofs.Math.Nat.{le_refl}
 use Rattle.warm_world.proofs.Histories.{asking_or_none, offer_record, offered_kept, history_after_reach, wanted_kept}
 use Rattle.warm_world.proofs.Worlds.{replica_set_at}

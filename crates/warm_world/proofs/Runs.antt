@@ -4,8 +4,8 @@ use Rattle.warm_world.specs.Views.{WorldView}
 use Rattle.warm_world.specs.declared.event.Event.{Event}
 use Rattle.warm_world.specs.declared.event.Answer.{Answer}
 use Rattle.warm_world.specs.States.{ModelState}
-use Rattle.warm_world.specs.Next.{Next, Run}
-use Rattle.warm_world.specs.Stands.{EachVictim, RunsAreRight, WorldStands, Stepped, Ran}
+use Rattle.warm_world.specs.Effects.{Next, Run}
+use Rattle.warm_world.specs.WorldStands.{EachVictim, RunsAreRight, WorldStands, Stepped, Ran}
 use Rattle.warm_world.proofs.Victims.{victims_are_farthest}
 use Rattle.warm_world.proofs.Agreement.{histories_are_exact, models_agree, replicas_agree}
 

@@ -17,8 +17,8 @@ use Rattle.warm_world.specs.declared.event.Answer.TheVariants.{Page, Refused}
 use Rattle.warm_world.specs.declared.event.WorldFault.TheVariants.{Node}
 use Rattle.warm_world.specs.Lists.{index_of_number}
 use Rattle.warm_world.specs.States.{ModelState, ReplicaState, replica_node, no_replica, pool_of, reach_of, replica}
-use Rattle.warm_world.specs.Next.{Next, SomeNodeReplies, reply_of}
-use Rattle.warm_world.specs.Stands.{IsRightVictim, IsEvictedFrom, MayLoad, VictimsAreRight}
+use Rattle.warm_world.specs.Effects.{Next, SomeNodeReplies, reply_of}
+use Rattle.warm_world.specs.WorldStands.{IsRightVictim, IsEvictedFrom, MayLoad, VictimsAreRight}
 use Rattle.warm_world.proofs.Worlds.{replica_there}
 
 -- the node of the replica was asked this call and replied; or nothing has changed

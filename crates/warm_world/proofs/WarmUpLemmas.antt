@@ -20,8 +20,8 @@ use Rattle.warm_world.specs.declared.event.Answer.TheVariants.{Done, Pinned, Byt
 use Rattle.warm_world.specs.Lists.{index_of_number}
 use Rattle.warm_world.specs.States.{ModelState, ReplicaState, no_replica, no_pool, replica_node, pool_of, reach_of, replica}
 use Rattle.warm_world.specs.Views.{ReplicaView, WorldView}
-use Rattle.warm_world.specs.Next.{NodeReplies, IsNamed, Next, Run, shape}
-use Rattle.warm_world.specs.Stands.{ReplicaStands, WorldStands}
+use Rattle.warm_world.specs.Effects.{NodeReplies, IsNamed, Next, Run, shape}
+use Rattle.warm_world.specs.WorldStands.{ReplicaStands, WorldStands}
 use Rattle.warm_world.specs.Rounds.{IsNotRefused}
 use Rattle.warm_world.specs.WarmUps.{ArePools, PoolsDiffer, WarmUpLoads}
 use Rattle.warm_world.proofs.Worlds.{replica_set_at}

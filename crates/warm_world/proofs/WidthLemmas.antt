@@ -32,8 +32,8 @@ use Rattle.warm_world.specs.declared.event.Answer.TheVariants.{Done, Shown, Fram
 use Rattle.warm_world.specs.declared.event.WorldFault.TheVariants.{Node}
 use Rattle.warm_world.specs.Lists.{index_of_number}
 use Rattle.warm_world.specs.States.{ModelState, ReplicaState, MessageRecord, References, Digests, Request, no_replica, replica, reach_of, set_replica, set_pool, record_at, add_records, pending, flushed, put_last, raised_replica, referred, restarted, opened_over}
-use Rattle.warm_world.specs.Answered.{records_of, bucket_records, requested_records, AreAnswers, reach_after, refs_of}
-use Rattle.warm_world.specs.Next.{Next, Delivered, Effect, RefusesEvent, SomeNodeReplies, IsNamed, call_of, replica_of, reply_of, shape, stamped}
+use Rattle.warm_world.specs.GossipAnswers.{records_of, bucket_records, requested_records, AreAnswers, reach_after, refs_of}
+use Rattle.warm_world.specs.Effects.{Next, Delivered, Effect, RefusesEvent, SomeNodeReplies, IsNamed, call_of, replica_of, reply_of, shape, stamped}
 use Rattle.warm_world.specs.Widths.{EventFits, ReachFits, ReplicaFits, RecordFits, ModelFits, OpeningFits, RunsFit, HistoriesFit}
 
 -- ---- lists

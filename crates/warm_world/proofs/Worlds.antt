@@ -17,10 +17,10 @@ use Rattle.warm_world.specs.declared.event.WorldFault.TheVariants.{Node, NoSuchR
 use Rattle.warm_world.specs.Lists.{IsNumber, Pairwise, index_of_number}
 use Rattle.warm_world.specs.Views.{ReplicaView, WorldView}
 use Rattle.warm_world.specs.States.{ModelState, ReplicaState, replica_node, no_replica, replica, set_replica}
-use Rattle.warm_world.specs.Next.{NodeReplies, IsMissing, IsNamed, Next, SomeNodeReplies, Shape, call_of, replica_of, reply_of, shape}
+use Rattle.warm_world.specs.Effects.{NodeReplies, IsMissing, IsNamed, Next, SomeNodeReplies, Shape, call_of, replica_of, reply_of, shape}
 use Rattle.warm_world.specs.Replicas.{SomeReply}
-use Rattle.warm_world.specs.Stands.{ReplicaStands, Stepped, WorldStands, buffered, view_shape}
-use Rattle.warm_world.proofs.Alone.{IsAlone, replies_alone}
+use Rattle.warm_world.specs.WorldStands.{ReplicaStands, Stepped, WorldStands, buffered, view_shape}
+use Rattle.warm_world.proofs.PoolCallLemmas.{IsAlone, replies_alone}
 use Rattle.warm_world.proofs.Calls.{next_of_reply}
 use Rattle.warm_world.proofs.Pairs.{Pairwise-set, Pairwise-map}
 

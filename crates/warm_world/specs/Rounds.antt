@@ -9,7 +9,7 @@ use Rattle.warm_world.specs.declared.event.Event.TheVariants.{Offer, Deliver}
 use Rattle.warm_world.specs.declared.event.Answer.{Answer}
 use Rattle.warm_world.specs.declared.event.Answer.TheVariants.{Refused}
 use Rattle.warm_world.specs.States.{ModelState, reach_of}
-use Rattle.warm_world.specs.Next.{Run}
+use Rattle.warm_world.specs.Effects.{Run}
 use Rattle.warm_world.specs.Widths.{ModelFits}
 
 -- the event was not refused

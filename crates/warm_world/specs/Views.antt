@@ -5,7 +5,7 @@ use Rattle.std.specs.Global.{Vec}
 use Rattle.warm_devices.specs.Device.{DeviceState}
 use Rattle.warm_refbuffer.specs.Buffered.{Buffered}
 use Rattle.warm_gossip.specs.State.{NodeState, NodeView, node_view}
-use Rattle.warm_world.specs.declared.replica.Replica.{Replica}
+use Rattle.warm_world.specs.declared.replica.WorldReplica.{WorldReplica}
 use Rattle.warm_world.specs.declared.world.World.{World}
 
 -- a replica: its node, and its workers' buffers
@@ -21,7 +21,7 @@ pub record WorldView : Type 0 where
 -- How it follows from a world.
 
 -- what contracts see of a replica
-abbrev pub replica_view : {D : Type 0} → Replica D → ReplicaView
+abbrev pub replica_view : {D : Type 0} → WorldReplica D → ReplicaView
 replica_view r = record { node = node_view r.node; buffers = r.buffers.items }
 
 -- what contracts see of a world

@@ -9,7 +9,7 @@ use Rattle.warm_world.specs.declared.event.Event.{Event}
 use Rattle.warm_world.specs.declared.event.Event.TheVariants.{WarmStep}
 use Rattle.warm_world.specs.States.{ModelState, pool_of, reach_of}
 use Rattle.warm_world.specs.Views.{WorldView}
-use Rattle.warm_world.specs.Stands.{WorldStands}
+use Rattle.warm_world.specs.WorldStands.{WorldStands}
 use Rattle.warm_world.specs.Rounds.{NoneRefused}
 
 -- the warm-up of a replica: as many steps as its pool has frames

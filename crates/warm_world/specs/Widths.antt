@@ -12,8 +12,8 @@ use Rattle.warm_world.specs.declared.event.Event.TheVariants.{Refer, Horizon}
 use Rattle.warm_world.specs.declared.event.Answer.{Answer}
 use Rattle.warm_world.specs.Sizes.{Sizes}
 use Rattle.warm_world.specs.States.{ModelState, ReplicaState, MessageRecord, reach_of, opening}
-use Rattle.warm_world.specs.Answered.{refs_of}
-use Rattle.warm_world.specs.Next.{Run}
+use Rattle.warm_world.specs.GossipAnswers.{refs_of}
+use Rattle.warm_world.specs.Effects.{Run}
 
 -- an event's page and time are within their widths
 abbrev pub EventFits : Event → Type 0

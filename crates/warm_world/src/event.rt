@@ -4,7 +4,7 @@ ghost use Rattle.warm_world.specs.Faults.{bad_code_of, bad_name_of, code_of, nam
 ghost use Rattle.warm_gossip.specs.declared.fault.NodeFault.TheVariants as node;
 ghost use Rattle.warm_world.specs.declared.event.WorldFault.TheVariants as fault;
 ghost use Rattle.warm_world.specs.declared.event.BadWorld.TheVariants as bad;
-ghost use Rattle.warm_world.specs.Next.{replica_of, worker_of, message_of};
+ghost use Rattle.warm_world.specs.Effects.{replica_of, worker_of, message_of};
 ghost use Rattle.warm_world.specs.Replicas.{answered};
 
 use crate::shown::ShownHistory;
@@ -32,7 +32,7 @@ pub enum Event {
     /// replica's history, all of them or none. Digests and a request are answered by messages,
     /// which are stored after the others, all of them or none.
     Deliver(u16, u64),
-    /// A page is pinned in a replica's pool, and loaded into a frame where it isn't resident:
+    /// A page is pinned in a replica's pool, and loaded into a frame if it isn't resident:
     /// replica, page. It is not a reference.
     Pin(u16, PageId),
     /// A pin is removed from a slot's page: replica, slot.
@@ -69,13 +69,13 @@ pub enum Answer {
     /// Send and Offer: the number of the message, counted from 1 over all messages of the world.
     FrameNo(u64),
     /// Deliver: the number of answering messages, and the message number of the first of them; 0
-    /// and 0 where there is none.
+    /// and 0 if there is none.
     Took { count: u64, first: u64 },
     /// Pin: the slot of the page.
     Pinned(Slot),
     /// Get: the bytes.
     Bytes(ByteList),
-    /// Victim: the page that would be evicted next; none where no resident page is unpinned.
+    /// Victim: the page that would be evicted next; none if no resident page is unpinned.
     Page(Option<PageId>),
     /// Warm: the pages that leave last, the hottest first.
     Pages(PageList),
@@ -92,8 +92,8 @@ pub enum Answer {
 /// message before a refusal of the node.
 #[derive(Clone, Copy, Debug, PartialEq, Eq, Error)]
 pub enum WorldFault {
-    /// 1 and 4 to 13: the refusal of the replica's node. `Memory`, which is 1, also occurs where
-    /// the allocation of a message or of a copy of a history fails; for Refer only where the buffer
+    /// 1 and 4 to 13: the refusal of the replica's node. `Memory`, which is 1, also occurs if
+    /// the allocation of a message or of a copy of a history fails; for Refer only if the buffer
     /// is full, and never for Pin, Unpin, Put, Victim, Restart and Horizon.
     #[error(transparent)]
     Node(NodeFault),

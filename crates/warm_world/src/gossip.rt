@@ -1,11 +1,11 @@
 //! Events of a replica's history: what it sends and what it receives.
 ghost use Rattle.std.specs.Prelude.{◌≡◌, [], map, OnOk, OnErr, IfOk, IsOk};
-ghost use Rattle.warm_world.specs.Next.{IsNamed};
+ghost use Rattle.warm_world.specs.Effects.{IsNamed};
 ghost use Rattle.warm_world.specs.Lists.{Pairwise};
 ghost use Rattle.warm_world.specs.Replicas.{EncodesMessage, Keeps, KeepsAll, StoresAnswers};
 ghost use Rattle.warm_world.specs.Replicas.{answered};
 ghost use Rattle.warm_world.specs.Views.{world_view};
-ghost use Rattle.warm_world.specs.Stands.{view_shape, Steps};
+ghost use Rattle.warm_world.specs.WorldStands.{view_shape, Steps};
 
 use crate::event::{Answer, Event};
 use crate::shown::ShownHistory;

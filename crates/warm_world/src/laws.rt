@@ -1,18 +1,18 @@
 //! Theorems over all runs of a world, over the definitions alone.
 //!
 //! Each function does nothing. Its contract is a theorem, which the crates above cite and a reader
-//! can look up: `specs/Stands.antt`, `specs/Rounds.antt`, `specs/Widths.antt` and
+//! can look up: `specs/WorldStands.antt`, `specs/Rounds.antt`, `specs/Widths.antt` and
 //! `specs/WarmUps.antt` state them in full.
 ghost use Rattle.std.specs.Prelude.{◌<◌, ◌^◌, map};
 ghost use Rattle.std.specs.List.{AllByRecursion};
 ghost use Rattle.warm_stamps.specs.Bytes.{IsPage};
 ghost use Rattle.warm_world.specs.Rounds.{GossipRoundJoins};
-ghost use Rattle.warm_world.specs.Stands.{RunsAreRight};
+ghost use Rattle.warm_world.specs.WorldStands.{RunsAreRight};
 ghost use Rattle.warm_world.specs.Views.{world_view};
 ghost use Rattle.warm_world.specs.WarmUps.{ArePools, ShowsPoolsDiffer, WarmUpLoads};
 ghost use Rattle.warm_world.specs.Widths.{EventFits, HistoriesFit, OpeningFits, RunsFit};
 
-use crate::replica::Replica;
+use crate::replica::WorldReplica;
 use crate::{Event, World};
 use warm_devices::PageDevice;
 use warm_stamps::PageId;
@@ -27,7 +27,7 @@ pub fn runs_are_right()
 
 /// A round of gossip: a replica offers its digests to another, and each receives all answers of the
 /// other, with no event refused. Afterwards the histories of both have the entries of the join of
-/// the two before. The second has the join's horizon, the later one; the first has it where the
+/// the two before. The second has the join's horizon, the later one; the first has it if the
 /// second answered the offer. Or two different texts of one bucket, one of each replica, have the
 /// same SHA-256 digest: that of the second replica at the later horizon. It holds in each state
 /// whose numbers are within their widths, and so, by the three laws below, after any events.
@@ -94,7 +94,7 @@ pub fn pools_differ<D: PageDevice>(world: &World<D>)
 }
 
 // Each of the pools satisfies the invariant of pools, as its type implies.
-fn prove_pools<D: PageDevice>(replicas: &[Replica<D>])
+fn prove_pools<D: PageDevice>(replicas: &[WorldReplica<D>])
     ensures { ArePools (map (λ r. r.node) replicas.now) }
 {
     for replica in replicas {

@@ -9,7 +9,7 @@
 //!
 //! [`World::step`] answers one event and [`World::run`] a list of them. Their contracts are stated
 //! over a model: plain lists of references, and the views of pools (`specs/States.antt`,
-//! `specs/Next.antt`). The model does not exist at run time.
+//! `specs/Effects.antt`). The model does not exist at run time.
 #![tactic(auto)]
 
 mod event;

@@ -43,7 +43,7 @@ pub fn are_usable<D: PageDevice>(setup: Setup, devices: &[Vec<D>]) -> bool
 /// A node without references over a replica's devices, and over a pool without a page. The devices'
 /// pages have the setup's size.
 ///
-/// `AllocError` occurs only where an allocation fails. The devices are then dropped.
+/// `AllocError` occurs only if an allocation fails. The devices are then dropped.
 pub(crate) fn node_over<D: PageDevice>(
     alloc: Global,
     id: ReplicaId,
@@ -64,7 +64,7 @@ pub(crate) fn node_over<D: PageDevice>(
 /// A node without references over each list of devices, numbered from 1: the nodes of the world
 /// that [`crate::World::new`] makes over them, for a player that shares them among threads.
 ///
-/// `AllocError` occurs only where an allocation fails. All devices are then dropped.
+/// `AllocError` occurs only if an allocation fails. All devices are then dropped.
 pub fn nodes_over<D: PageDevice>(
     alloc: Global,
     setup: Setup,

@@ -1,7 +1,7 @@
 //! Events of a replica's pool.
 ghost use Rattle.std.specs.Prelude.{IsSome};
 ghost use Rattle.warm_gossip.specs.State.{node_view};
-ghost use Rattle.warm_world.specs.Next.{call_of, reply_of};
+ghost use Rattle.warm_world.specs.Effects.{call_of, reply_of};
 ghost use Rattle.warm_world.specs.Replicas.{SomeReply, answered};
 
 use crate::event::{Answer, Event};

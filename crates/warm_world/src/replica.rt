@@ -6,9 +6,9 @@ ghost use Rattle.warm_refbuffer.specs.Buffered.{IsCapacity};
 ghost use Rattle.warm_pool.specs.declared.TheConstants.{MAX_DEVICES};
 ghost use Rattle.warm_gossip.specs.declared.fault.NodeFault.TheVariants.{Memory};
 ghost use Rattle.warm_world.specs.States.{flushed, opened_over, referred};
-ghost use Rattle.warm_world.specs.Next.{stamped};
+ghost use Rattle.warm_world.specs.Effects.{stamped};
 ghost use Rattle.warm_world.specs.Views.{replica_view};
-ghost use Rattle.warm_world.specs.Stands.{buffered, ReplicaStands, Becomes, IsBufferFull};
+ghost use Rattle.warm_world.specs.WorldStands.{buffered, ReplicaStands, Becomes, IsBufferFull};
 ghost use Rattle.warm_refbuffer.specs.Buffered.{cleared};
 ghost use Rattle.warm_world.specs.Replicas.{Restarts};
 
@@ -22,7 +22,7 @@ use warm_stamps::{PageId, Reference, ReplicaId, Stamp};
 
 /// A node, and its workers' buffers: the references that have not reached it yet.
 #[derive(Drop)]
-pub(crate) struct Replica<D: PageDevice> {
+pub(crate) struct WorldReplica<D: PageDevice> {
     pub(crate) node: Node<D>,
     pub(crate) buffers: Vec<RefBuffer>,
 }
@@ -50,11 +50,11 @@ fn empty_buffers(alloc: Global, workers: u16, capacity: usize) -> Result<Vec<Ref
     Ok(buffers)
 }
 
-impl<D: PageDevice> Replica<D> {
+impl<D: PageDevice> WorldReplica<D> {
     /// A replica that no reference has reached, over a pool without a page. The devices' pages have
     /// the setup's size.
     ///
-    /// Fails where an allocation fails.
+    /// Fails if an allocation fails.
     pub(crate) fn new(
         alloc: Global,
         id: ReplicaId,
@@ -68,7 +68,7 @@ impl<D: PageDevice> Replica<D> {
     {
         let node = node_over(alloc, id, setup, devices)?;
         let buffers = empty_buffers(alloc, setup.workers(), setup.buffer() as usize)?;
-        Ok(Replica { node, buffers })
+        Ok(WorldReplica { node, buffers })
     }
 
     /// Flushes a worker's buffer into the node.

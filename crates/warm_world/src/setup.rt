@@ -71,7 +71,7 @@ impl Setup {
     /// A setup of the numbers of `replicas` (1 to [`MAX_REPLICAS`]), of `workers` of each (1 to
     /// [`MAX_WORKERS`]), of references that the `buffer` of a worker holds (1 to [`MAX_CAPACITY`]),
     /// of `frames` of each replica's pool (1 to [`MAX_FRAMES`]), and of bytes of a page
-    /// (`page_size`, 1 to [`MAX_PAGE_SIZE`]). `BadSetup` occurs exactly where one of them is
+    /// (`page_size`, 1 to [`MAX_PAGE_SIZE`]). `BadSetup` occurs exactly if one of them is
     /// outside these limits.
     pub fn new(
         replicas: u16,

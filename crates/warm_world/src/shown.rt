@@ -23,7 +23,7 @@ impl Model for ShownHistory {
 impl ShownHistory {
     /// The history, moved to a box that is allocated here.
     ///
-    /// `AllocError` occurs only where that allocation fails. The history is then dropped.
+    /// `AllocError` occurs only if that allocation fails. The history is then dropped.
     pub fn new(alloc: Global, history: History) -> Result<ShownHistory, AllocError>
         ensures { IfOk result (λ shown. shown ≡ history) }
     {

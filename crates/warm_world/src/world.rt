@@ -8,16 +8,16 @@ ghost use Rattle.warm_pool.specs.declared.fault.PoolFault.TheVariants.{Fault};
 ghost use Rattle.warm_gossip.specs.declared.fault.NodeFault.TheVariants.{Pool};
 ghost use Rattle.warm_world.specs.Opening.{AreFew, AreFitting, AreSized, FailsAtIndex, FinishFails};
 ghost use Rattle.warm_world.specs.Opening.{NewWorldRefused, StopsInOrder};
-ghost use Rattle.warm_world.specs.Next.{IsNamed, IsMissing};
+ghost use Rattle.warm_world.specs.Effects.{IsNamed, IsMissing};
 ghost use Rattle.warm_world.specs.Replicas.{answered};
 ghost use Rattle.warm_world.specs.Views.{listed, world_view, replica_view};
 ghost use Rattle.warm_world.specs.Views.{AreSameBut, IsAtRest, IsSettledBefore};
-ghost use Rattle.warm_world.specs.Stands.{CountsFailure, ReplicaStands, view_shape, WorldStands};
-ghost use Rattle.warm_world.specs.Stands.{Steps, FollowsModel};
+ghost use Rattle.warm_world.specs.WorldStands.{CountsFailure, ReplicaStands, view_shape, WorldStands};
+ghost use Rattle.warm_world.specs.WorldStands.{Steps, FollowsModel};
 
 use crate::event::{Answer, BadWorld, Event, WorldFault, answer_of};
 use crate::pool_events::ask;
-use crate::replica::Replica;
+use crate::replica::WorldReplica;
 use crate::setup::Setup;
 use std::alloc::{AllocError, Global};
 use warm_devices::PageDevice;
@@ -34,7 +34,7 @@ use warm_stamps::{PageId, ReplicaId};
 /// A message is stored for as long as the world lives, so memory use grows with the messages sent.
 pub struct World<D: PageDevice> {
     pub(crate) alloc: Global,
-    pub(crate) replicas: Vec<Replica<D>>,
+    pub(crate) replicas: Vec<WorldReplica<D>>,
     pub(crate) messages: Vec<Vec<u8>>,
 }
 
@@ -83,7 +83,7 @@ fn replicas_over<D: PageDevice>(
     alloc: Global,
     setup: Setup,
     devices: Vec<Vec<D>>,
-) -> Result<Vec<Replica<D>>, AllocError>
+) -> Result<Vec<WorldReplica<D>>, AllocError>
     requires few { AreFew (listed D.state devices.items) }
     requires many { length devices.items ≤ MAX_REPLICAS }
     ensures stand { IfOk result (λ made. Pairwise (ReplicaStands setup.buffer)
@@ -95,7 +95,7 @@ fn replicas_over<D: PageDevice>(
         let Ok(id) = ReplicaId::new(replicas.len() as u16 + 1) else {
             unreachable!()
         };
-        let replica = Replica::new(alloc, id, setup, list)?;
+        let replica = WorldReplica::new(alloc, id, setup, list)?;
         replicas.push_reserved(replica);
     }
     Ok(replicas)
@@ -286,7 +286,7 @@ impl<D: PageDevice> World<D> {
     /// and warm-up list, and each victim is an unpinned resident page of greatest backward
     /// 2-distance.
     ///
-    /// The memory for the answers is allocated before the first event. Where that fails, the events
+    /// The memory for the answers is allocated before the first event. If that fails, the events
     /// are given back, and nothing has happened.
     pub fn run(&mut self, events: Vec<Event>) -> Result<Vec<Answer>, Vec<Event>>
         ensures ran { IfOk result (λ answers.

@@ -59,9 +59,9 @@ fn put_horizon<W: Write>(writer: &mut W, sign: char, own: u64, other: u64) -> io
     Ok(true)
 }
 
-/// Writes what each history adds to the other: its horizon where that is later, and of each page
+/// Writes what each history adds to the other: its horizon if that is later, and of each page
 /// the stamps that the join of both holds and the other does not. Gives whether it wrote a line,
-/// which it does exactly where the histories differ.
+/// which it does exactly if the histories differ.
 pub fn put_difference<'a, W: Write>(
     writer: &mut W,
     first: &History,

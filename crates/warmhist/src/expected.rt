@@ -1,6 +1,6 @@
 //! What a text has to say at a place where it says something else.
 
-use crate::text_reader::MAX_LINE;
+use crate::text_reader::MAX_TEXT_LINE;
 use std::fmt::{self, Display, Formatter, Write};
 
 /// What is expected.
@@ -31,7 +31,7 @@ pub enum Expected {
 impl Display for Expected {
     fn fmt<W: Write>(&self, f: &mut Formatter<W>) -> Result<(), fmt::Error> {
         match *self {
-            Expected::ShortLine => write!(f, "a line of at most {MAX_LINE} bytes"),
+            Expected::ShortLine => write!(f, "a line of at most {MAX_TEXT_LINE} bytes"),
             Expected::FirstLine => write!(f, "horizon, a page as 0:17, or end"),
             Expected::NextLine => write!(f, "a page as 0:17, or end"),
             Expected::Time => write!(f, "a time"),

@@ -32,7 +32,7 @@ pub struct Unread<'a> {
     pub name: &'a str,
     /// The fault, and where the frame begins that shows it.
     pub why: DumpError,
-    /// What the system said, where the file could not be read.
+    /// What the system said, if the file could not be read.
     pub error: Option<ErrorKind>,
 }
 

@@ -2,7 +2,7 @@
 
 use warm_stamps::{PageId, ReplicaId, Stamp};
 
-/// The first word of a line, and what follows it. The word is empty where there is none.
+/// The first word of a line, and what follows it. The word is empty if there is none.
 pub fn next_word(line: &[u8]) -> (&[u8], &[u8]) {
     for i in 0..line.len() {
         if line[i] != b' ' {

@@ -20,7 +20,7 @@ use crate::failure::{Failure, report};
 use crate::making::{join_files, make_file};
 use crate::printing::{put_check, put_history, put_hottest, put_text};
 use crate::reading::read_file;
-use crate::words::{Asked, Joining, Lines, Making, asked_in, matches_of, reads_twice};
+use crate::words::{HistCommand, Joining, Lines, Making, asked_in, matches_of, reads_twice};
 use std::env;
 use std::io::{BufWriter, Stdout, Write};
 use std::process::ExitCode;
@@ -103,20 +103,20 @@ fn make<'a>(rt: &'a HostRuntime, making: &Making<'a>) -> Result<u8, Failure<'a>>
     Ok(DONE)
 }
 
-fn done<'a>(rt: &'a HostRuntime, asked: &Asked<'a>) -> Result<u8, Failure<'a>> {
+fn done<'a>(rt: &'a HostRuntime, asked: &HistCommand<'a>) -> Result<u8, Failure<'a>> {
     match asked {
-        Asked::Show(file) => show(rt, *file),
-        Asked::Hot(file, count) => hot(rt, *file, *count),
-        Asked::Check(file, lines) => check(rt, *file, *lines),
-        Asked::Diff(first, second, lines) => diff(rt, *first, *second, *lines),
-        Asked::Join(joining) => join(rt, joining),
-        Asked::Text(file) => text(rt, *file),
-        Asked::Make(making) => make(rt, making),
+        HistCommand::Show(file) => show(rt, *file),
+        HistCommand::Hot(file, count) => hot(rt, *file, *count),
+        HistCommand::Check(file, lines) => check(rt, *file, *lines),
+        HistCommand::Diff(first, second, lines) => diff(rt, *first, *second, *lines),
+        HistCommand::Join(joining) => join(rt, joining),
+        HistCommand::Text(file) => text(rt, *file),
+        HistCommand::Make(making) => make(rt, making),
     }
 }
 
 // Does what is asked for, and gives the status.
-fn status_of(rt: &HostRuntime, asked: &Asked<'_>) -> u8 {
+fn status_of(rt: &HostRuntime, asked: &HistCommand<'_>) -> u8 {
     if reads_twice(asked) {
         let _ = eprintln!(rt; "warmhist: standard input can be read once");
         return TROUBLE;

@@ -16,7 +16,7 @@ fn joined_of<'a>(rt: &'a HostRuntime, files: &[&'a str]) -> Result<History, Fail
     Ok(joined)
 }
 
-/// Joins the dumps, and writes the dump of the join, without the stamps before a time where one is
+/// Joins the dumps, and writes the dump of the join, without the stamps before a time if one is
 /// given. All are read before anything is written.
 pub fn join_files<'a>(rt: &'a HostRuntime, joining: &Joining<'a>) -> Result<(), Failure<'a>> {
     let mut history = joined_of(rt, joining.files.as_slice())?;

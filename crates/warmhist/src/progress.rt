@@ -7,8 +7,8 @@ const STEP: u64 = 1 << 22;
 
 const MEGABYTE: u64 = 1_000_000;
 
-/// A line on standard error that says how far reading or writing is. It is shown where standard
-/// error is a terminal, and nowhere else.
+/// A line on standard error that says how far reading or writing is. It is shown only if
+/// standard error is a terminal.
 #[derive(Drop)]
 pub struct Progress<'a> {
     rt: &'a HostRuntime,
@@ -29,7 +29,7 @@ impl<'a> Progress<'a> {
         }
     }
 
-    /// So many bytes were read or written: a line, where one is due.
+    /// Shows how many bytes were read or written: a line, if one is due.
     pub fn show(&mut self, bytes: u64) {
         if !self.is_shown || bytes < self.due {
             return;
@@ -40,7 +40,7 @@ impl<'a> Progress<'a> {
         let _ = eprint!(self.rt; "\rwarmhist: {name}: {} MB", bytes / MEGABYTE);
     }
 
-    /// Takes the line away, where there is one.
+    /// Takes the line away, if there is one.
     pub fn clear(&self) {
         if self.due > STEP {
             let _ = eprint!(self.rt; "\r\x1b[K");

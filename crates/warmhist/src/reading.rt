@@ -13,9 +13,9 @@ use warm_frames::FrameFault;
 use warm_history::History;
 
 // How often a text is read, and how many bytes of it at once.
-const MAX_READS: u64 = 1 << 40;
+const MAX_TEXT_READS: u64 = 1 << 40;
 
-const READ_SIZE: usize = 65_536;
+const TEXT_READ_SIZE: usize = 65_536;
 
 /// A dump that was read: its history, and what the headers of its frames say.
 #[derive(Drop)]
@@ -123,8 +123,8 @@ fn read_all<S: Read>(
     text: &mut TextReader,
     progress: &mut Progress<'_>,
 ) -> Result<(), TextFault> {
-    let mut buffer = vec![in alloc; 0u8; READ_SIZE]?;
-    for _ in 0..MAX_READS {
+    let mut buffer = vec![in alloc; 0u8; TEXT_READ_SIZE]?;
+    for _ in 0..MAX_TEXT_READS {
         if !read_some(source, buffer.as_mut_slice(), text, progress)? {
             return text.end();
         }

@@ -9,7 +9,7 @@ use warm_stamps::{PageId, Reference, Stamp};
 
 /// The greatest number of bytes of a line, its end not counted. The longest line that is printed
 /// has 84.
-pub const MAX_LINE: usize = 1024;
+pub const MAX_TEXT_LINE: usize = 1024;
 
 /// Why a text was not read.
 #[derive(Clone, Copy)]
@@ -229,7 +229,7 @@ impl TextReader {
         if byte == b'\n' {
             return self.end_line();
         }
-        if self.line.len() >= MAX_LINE {
+        if self.line.len() >= MAX_TEXT_LINE {
             return Err(TextFault::Bad(Expected::ShortLine));
         }
         self.line.push(byte)?;
@@ -245,7 +245,7 @@ impl TextReader {
         Ok(())
     }
 
-    /// The text ends here. `Ok` where its last line came.
+    /// The text ends here. `Ok` if its last line came.
     pub fn end(&mut self) -> Result<(), TextFault> {
         if !self.line.is_empty() {
             self.end_line()?;

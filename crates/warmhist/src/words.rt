@@ -17,7 +17,7 @@ writes frames L2G2";
 
 /// What the words ask for.
 #[derive(Drop)]
-pub enum Asked<'a> {
+pub enum HistCommand<'a> {
     Show(&'a str),
     Hot(&'a str, usize),
     Check(&'a str, Lines),
@@ -258,7 +258,10 @@ fn output_in<'a>(found: &ArgMatches<'a>) -> Option<Output<'a>> {
     Some(Output { out, sender })
 }
 
-fn joining_in<'a>(alloc: Global, found: &ArgMatches<'a>) -> Result<Option<Asked<'a>>, AllocError> {
+fn joining_in<'a>(
+    alloc: Global,
+    found: &ArgMatches<'a>,
+) -> Result<Option<HistCommand<'a>>, AllocError> {
     let Some(output) = output_in(found) else {
         return Ok(None);
     };
@@ -267,47 +270,47 @@ fn joining_in<'a>(alloc: Global, found: &ArgMatches<'a>) -> Result<Option<Asked<
     };
     let files = Vec::from_slice(alloc, files)?;
     let since = found.get_one("since");
-    Ok(Some(Asked::Join(Joining {
+    Ok(Some(HistCommand::Join(Joining {
         files,
         since,
         output,
     })))
 }
 
-fn making_in<'a>(found: &ArgMatches<'a>) -> Option<Asked<'a>> {
+fn making_in<'a>(found: &ArgMatches<'a>) -> Option<HistCommand<'a>> {
     let text = found.get_str("text")?;
     let Some(output) = output_in(found) else {
         return None;
     };
-    Some(Asked::Make(Making { text, output }))
+    Some(HistCommand::Make(Making { text, output }))
 }
 
-fn pair_in<'a>(found: &ArgMatches<'a>) -> Option<Asked<'a>> {
+fn pair_in<'a>(found: &ArgMatches<'a>) -> Option<HistCommand<'a>> {
     let first = found.get_str("first")?;
     let second = found.get_str("second")?;
-    Some(Asked::Diff(first, second, lines_in(found)))
+    Some(HistCommand::Diff(first, second, lines_in(found)))
 }
 
 // What is asked for of one dump.
-fn file_in<'a>(name: &str, found: &ArgMatches<'a>) -> Option<Asked<'a>> {
+fn file_in<'a>(name: &str, found: &ArgMatches<'a>) -> Option<HistCommand<'a>> {
     let file = found.get_str("file")?;
     if name == "hot" {
-        return Some(Asked::Hot(file, count_in(found)));
+        return Some(HistCommand::Hot(file, count_in(found)));
     }
     if name == "check" {
-        return Some(Asked::Check(file, lines_in(found)));
+        return Some(HistCommand::Check(file, lines_in(found)));
     }
     if name == "text" {
-        return Some(Asked::Text(file));
+        return Some(HistCommand::Text(file));
     }
-    Some(Asked::Show(file))
+    Some(HistCommand::Show(file))
 }
 
 /// What the matches ask for. `None` does not come of matches of these commands.
 pub fn asked_in<'a>(
     alloc: Global,
     matches: &ArgMatches<'a>,
-) -> Result<Option<Asked<'a>>, AllocError> {
+) -> Result<Option<HistCommand<'a>>, AllocError> {
     let Some((name, found)) = matches.subcommand() else {
         return Ok(None);
     };
@@ -324,10 +327,10 @@ pub fn asked_in<'a>(
 }
 
 /// Whether standard input would be read twice.
-pub fn reads_twice(asked: &Asked<'_>) -> bool {
+pub fn reads_twice(asked: &HistCommand<'_>) -> bool {
     match asked {
-        Asked::Diff(first, second, _) => *first == DASH && *second == DASH,
-        Asked::Join(joining) => {
+        HistCommand::Diff(first, second, _) => *first == DASH && *second == DASH,
+        HistCommand::Join(joining) => {
             let mut seen = false;
             for file in joining.files.as_slice() {
                 if *file == DASH {

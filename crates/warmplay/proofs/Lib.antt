@@ -1,1 +1,1 @@
-pub mod Few
+pub mod DeviceCountLemmas

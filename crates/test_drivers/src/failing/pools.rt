@@ -1,7 +1,7 @@
 //! Calls of a pool, each in a function of its own, whose contract keeps the history by which the
 //! pool is ranked, and which prints the result.
 ghost use Rattle.std.specs.Prelude.{IfOk, IfSome};
-ghost use Rattle.warm_pool.specs.Keeping.{KeepsRanks};
+ghost use Rattle.warm_pool.specs.Unchanged.{KeepsRanks};
 ghost use Rattle.warm_pool.specs.State.{IsRankedByAll, RankedBy};
 
 use crate::failing::line::{PoolCall, asked_in};

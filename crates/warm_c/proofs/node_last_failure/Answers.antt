@@ -1,7 +1,7 @@
 use Rattle.std.proofs.Common.{rules, Ok, to_z, of_z, w32}
-use Rattle.warm_c.specs.Counting.{SaysFailure}
+use Rattle.warm_c.specs.CountCalls.{SaysFailure}
 use Rattle.warm_c.specs.Handles.{Surely}
-use Rattle.warm_c.proofs.Endings.{called}
+use Rattle.warm_c.proofs.HandleLemmas.{called}
 use Rattle.warm_c.proofs.node_last_failure.Goals as goal
 
 pub returns-clause-called : goal.returns-clause-called

@@ -1,6 +1,6 @@
 use Rattle.std.proofs.Common.{rules, refl, Ok, Err, to_z, of_z, w32}
 use Rattle.warm_c.specs.Calls.{StepsWarmUp}
-use Rattle.warm_c.proofs.Endings.{called}
+use Rattle.warm_c.proofs.HandleLemmas.{called}
 use Rattle.warm_c.proofs.node_step.Goals as goal
 
 pub returns-in-Ok-clause-called : goal.returns-in-Ok-clause-called

@@ -1,7 +1,7 @@
 use Rattle.std.proofs.Common.{rules, Ok, to_z, of_z, w32}
 use Rattle.warm_c.specs.Calls.{Names}
 use Rattle.warm_c.specs.Handles.{Surely}
-use Rattle.warm_c.proofs.Endings.{called}
+use Rattle.warm_c.proofs.HandleLemmas.{called}
 use Rattle.warm_c.proofs.node_victim.Goals as goal
 
 pub returns-clause-called : goal.returns-clause-called

@@ -1,7 +1,7 @@
 -- The step by which pages are forgotten.
 use Rattle.std.specs.Prelude.{length}
-use Rattle.warm_pool.specs.declared.selection.Devices.{Devices}
-use Rattle.warm_pool.specs.Frames.{FramesState}
+use Rattle.warm_frame_table.specs.declared.selection.Devices.{Devices}
+use Rattle.warm_frame_table.specs.Frames.{FramesState}
 use Rattle.warm_pool.specs.WritingBack.{cleaned_selected}
 
 -- the frames, those of selected pages clean

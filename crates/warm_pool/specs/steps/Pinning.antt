@@ -2,6 +2,7 @@
 use Rattle.std.specs.Prelude.{ℕ, ◌≡◌, false, List, Option, Some, ◌+◌, ◌-◌, ◌^◌, set, Result, IfOk}
 use Rattle.warm_stamps.specs.declared.PageId.{PageId}
 use Rattle.warm_history.specs.Histories.{HistoryView}
+use Rattle.warm_frame_table.specs.Frames.{nth_frame}
 use Rattle.warm_pool.specs.declared.slot.Slot.{Slot}
 use Rattle.warm_pool.specs.declared.slot.Placed.{Placed}
 use Rattle.warm_pool.specs.declared.fault.PoolFault.{PoolFault}
@@ -9,8 +10,7 @@ use Rattle.warm_pool.specs.declared.fault.PoolFault.TheVariants.{ReadFault, Writ
 use Rattle.warm_rank.specs.declared.RankKey.{RankKey}
 use Rattle.warm_devices.specs.Device.{DeviceState}
 use Rattle.warm_pool.specs.DeviceCalls.{failed_at}
-use Rattle.warm_pool.specs.Frames.{nth_frame}
-use Rattle.warm_pool.specs.Keeping.{FailsAt, KeepsContents}
+use Rattle.warm_pool.specs.Unchanged.{FailsAt, KeepsContents}
 use Rattle.warm_pool.specs.Pinning.{AddsFix, IsFrameToLoad, PutsIn, TakesFrame}
 use Rattle.warm_pool.specs.State.{PoolState, RankedBy}
 use Rattle.warm_pool.specs.View.{view_of}

@@ -1,16 +1,11 @@
 -- The steps by which a pool is emptied, or a device retired.
-use Rattle.std.specs.Prelude.{ℕ, ◌≡◌, ◌<◌, false, IsTrue, List, length, Option, None, if◌then◌else◌}
-use Rattle.warm_stamps.specs.declared.PageId.{PageId}
-use Rattle.warm_pool.specs.declared.selection.Devices.{Devices}
-use Rattle.warm_pool.specs.declared.selection.Devices.TheVariants.{One}
-use Rattle.warm_pool.specs.Frames.{FrameState, nth_frame, vacated}
+use Rattle.std.specs.Prelude.{ℕ, ◌≡◌, ◌<◌, false, IsTrue, List, length}
+use Rattle.warm_frame_table.specs.declared.selection.Devices.{Devices}
+use Rattle.warm_frame_table.specs.declared.selection.Devices.TheVariants.{One}
+use Rattle.warm_frame_table.specs.Frames.{FrameState, nth_frame}
+use Rattle.warm_frame_table.specs.Selection.{selects}
 use Rattle.warm_pool.specs.State.{PoolState, nth_device}
-use Rattle.warm_pool.specs.WritingBack.{selects}
 use Rattle.warm_pool.specs.steps.WritingBack.{WritesBackAll}
-
--- the page of a frame after the selected frames are vacated
-abbrev pub clear_if : Devices → Option PageId → Option PageId
-clear_if which page = if selects which page then None else page
 
 -- a selected frame has a pinned page
 pub record IsFixedIn (which : Devices) (frames : List FrameState) : Type 0 where
@@ -23,11 +18,6 @@ pub record IsFixedIn (which : Devices) (frames : List FrameState) : Type 0 where
 abbrev pub AreUnfixed : Devices → List FrameState → Type 0
 AreUnfixed which frames = (i : ℕ) → IsTrue (selects which (nth_frame frames i).page)
     → (nth_frame frames i).fixes ≡ 0
-
--- each selected frame is clean
-abbrev pub AreClean : Devices → List FrameState → Type 0
-AreClean which frames = (i : ℕ) → IsTrue (selects which (nth_frame frames i).page)
-    → (nth_frame frames i).dirty ≡ false
 
 -- device dev may be replaced by one with pages of this size: none of its pages is pinned, they were
 -- written back, and it is flushed

@@ -4,14 +4,16 @@ use Rattle.std.specs.Prelude.{set, Result}
 use Rattle.warm_stamps.specs.declared.PageId.{PageId}
 use Rattle.warm_devices.specs.Device.{DeviceState}
 use Rattle.warm_devices.specs.declared.fault.DeviceFault.{DeviceFault}
-use Rattle.warm_pool.specs.declared.selection.Devices.{Devices}
+use Rattle.warm_frame_table.specs.declared.selection.Devices.{Devices}
+use Rattle.warm_frame_table.specs.Frames.{FrameState, nth_frame}
+use Rattle.warm_frame_table.specs.FrameSteps.{cleaned}
+use Rattle.warm_frame_table.specs.Selection.{is_on, selects}
 use Rattle.warm_pool.specs.DeviceCalls.{PageWrite}
-use Rattle.warm_pool.specs.Frames.{FrameState, cleaned, nth_frame}
-use Rattle.warm_pool.specs.Keeping.{FailsAt}
+use Rattle.warm_pool.specs.Unchanged.{FailsAt}
 use Rattle.warm_pool.specs.State.{PoolState, nth_device}
 use Rattle.warm_pool.specs.View.{view_of}
 use Rattle.warm_pool.specs.WritingBack.{KeptDevices, WaitsFor, WritesBack, clean_if}
-use Rattle.warm_pool.specs.WritingBack.{cleaned_selected, is_on, selects}
+use Rattle.warm_pool.specs.WritingBack.{cleaned_selected}
 
 -- where the frame has a dirty page, one call of its device wrote its bytes, with this result
 abbrev pub WritesFrame : FrameState → List DeviceState → List DeviceState

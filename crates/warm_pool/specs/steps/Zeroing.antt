@@ -2,16 +2,16 @@
 use Rattle.std.specs.Prelude.{ℕ, ◌≡◌, ◌-◌, true, false, replicate, set, Some}
 use Rattle.warm_stamps.specs.declared.PageId.{PageId}
 use Rattle.warm_rank.specs.declared.RankKey.{RankKey}
+use Rattle.warm_frame_table.specs.Frames.{FrameState, nth_frame}
+use Rattle.warm_frame_table.specs.FrameSteps.{loaded_frame}
 use Rattle.warm_pool.specs.declared.slot.Slot.{Slot}
 use Rattle.warm_pool.specs.declared.fault.PoolFault.{PoolFault}
 use Rattle.warm_pool.specs.declared.fault.PoolFault.TheVariants.{WriteBack}
-use Rattle.warm_pool.specs.Frames.{FrameState, nth_frame}
-use Rattle.warm_pool.specs.Keeping.{KeepsOthers}
+use Rattle.warm_pool.specs.Unchanged.{KeepsOthers}
 use Rattle.warm_pool.specs.State.{PoolState}
 use Rattle.warm_pool.specs.View.{contents_at, view_of}
 use Rattle.warm_pool.specs.WritingBack.{WaitsFor}
 use Rattle.warm_pool.specs.Zeroing.{FixesZeroed, KeepsContentsBut}
-use Rattle.warm_pool.specs.frame_table.FrameSteps.{loaded_frame}
 use Rattle.warm_pool.specs.steps.WritingBack.{CleanFails}
 
 -- a frame with this page, one pin, this rank and so many zeros

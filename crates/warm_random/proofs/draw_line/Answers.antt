@@ -1,6 +1,6 @@
 use Rattle.std.proofs.Common.{arith}
 use Rattle.std.proofs.lemmas.Bool.Decides.{nat_tests}
-use Rattle.warm_random.proofs.Lines.{ref_drawn}
+use Rattle.warm_random.proofs.DrawnLineLemmas.{ref_drawn}
 use Rattle.warm_random.proofs.draw_line.Goals as goal
 
 pub returns-in-0-to-3 : goal.returns-in-0-to-3

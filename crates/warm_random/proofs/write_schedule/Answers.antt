@@ -3,8 +3,8 @@ use Rattle.std.specs.Io.KnownBytes.{Appends}
 use Rattle.std.specs.Int.{from_bool}
 use Rattle.rand_pcg.specs.Lcg.{Lcg}
 use Rattle.warm_random.specs.Drawing.{is_send, line, line_text, random_lines, seeded}
-use Rattle.warm_random.proofs.Written.{Appends-none, Appends-then}
-use Rattle.warm_random.proofs.Lines.{draws_more, one_if, one_at_most, sends_more, text_more}
+use Rattle.warm_random.proofs.AppendLemmas.{Appends-none, Appends-then}
+use Rattle.warm_random.proofs.DrawnLineLemmas.{draws_more, one_if, one_at_most, sends_more, text_more}
 use Rattle.warm_random.specs.declared.DrawnLine.{DrawnLine}
 use Rattle.warm_random.proofs.write_schedule.Goals as goal
 

@@ -1,5 +1,5 @@
 use Rattle.std.proofs.lemmas.List.{length-map}
-use Rattle.warmplay.proofs.Few.{few_listed}
+use Rattle.warmplay.proofs.DeviceCountLemmas.{few_listed}
 use Rattle.warmplay.proofs.play_over.Goals as goal
 
 pub play-played-requires : goal.play-played-requires

@@ -1,5 +1,5 @@
 use Rattle.std.proofs.Common.{◌≤◌, length, map}
-use Rattle.warmplay.proofs.Few.{EachFew}
+use Rattle.warmplay.proofs.DeviceCountLemmas.{EachFew}
 use Rattle.warmplay.proofs.play_over.Given as goal
 
 abbrev pub invariant-loop-place : goal.invariant-loop-place

@@ -1,7 +1,7 @@
 use denote.Param.Send.{sendable}
 use Rattle.std.proofs.Crossing.{crosses}
 use Rattle.warm_devices.proofs.calls.CallsMade.TheSendSync.{the_send as calls_send}
-use Rattle.warm_concurrent.proofs.Sent.{attached_send, shards_sync}
+use Rattle.warm_concurrent.proofs.SendLemmas.{attached_send, shards_sync}
 use Rattle.bench_threads.proofs.shared.hit_by_two.Goals as goal
 
 pub join-attached-requires-send-F : goal.join-attached-requires-send-F

@@ -1,6 +1,6 @@
 use denote.Param.Send.{sendable}
 use Rattle.std.proofs.Crossing.{crosses}
-use Rattle.warm_turn.proofs.Sent.{pass_send, turn_sync}
+use Rattle.warm_turn.proofs.SendLemmas.{pass_send, turn_sync}
 use Rattle.bench_threads.proofs.turn.+add_in.Goals as goal
 
 pub join-pass-requires-send-F : goal.join-pass-requires-send-F

@@ -1,5 +1,5 @@
 use Rattle.std.proofs.Common.{refl}
-use Rattle.warm_pool.proofs.Fills.{given_unsure}
+use Rattle.warm_pool.proofs.FillingLemmas.{given_unsure}
 use Rattle.tests_nodes.proofs.filled.filled.Goals as goal
 
 pub pin_filled-requires-clause-given : goal.pin_filled-requires-clause-given

@@ -1,6 +1,6 @@
 use denote.Param.Send.{sendable}
 use Rattle.std.proofs.Crossing.{crosses}
-use Rattle.warm_turn.proofs.Sent.{pass_send, turn_sync}
+use Rattle.warm_turn.proofs.SendLemmas.{pass_send, turn_sync}
 use Rattle.tests_threads.proofs.turns.add_in_four_threads.Goals as goal
 
 pub join-first-requires-send-F : goal.join-first-requires-send-F

@@ -1,5 +1,5 @@
 use Rattle.std.proofs.Common.{◌≡◌, ◌≤◌, length, map, take, vec_capacity}
-use Rattle.warm_c.specs.Values.{c_page}
+use Rattle.warm_c_base.specs.Values.{c_page}
 use Rattle.warm_c.proofs.history_calls.c_pages.Given as goal
 
 -- the pages so far, and capacity for all

@@ -1,6 +1,6 @@
 use Rattle.std.proofs.Common.{rules, to_z, of_z, w32}
 use Rattle.warm_c.specs.PartCalls.{ReceivesPart}
-use Rattle.warm_c.proofs.Endings.{called}
+use Rattle.warm_c.proofs.HandleLemmas.{called}
 use Rattle.warm_c.proofs.part_exports.node_receive_part.Goals as goal
 
 pub returns : goal.returns

@@ -1,7 +1,7 @@
 use Rattle.std.proofs.Common.{◌≡◌, false, true, rules, to_z, of_z, w32}
 use Rattle.warm_gossip.specs.declared.fault.NodeFault.TheVariants.{Memory}
-use Rattle.warm_c.specs.declared.status.Refusal.TheVariants.{BadReplica, Node}
-use Rattle.warm_c.proofs.Endings.{peer_refused}
+use Rattle.warm_c_base.specs.declared.status.Refusal.TheVariants.{BadReplica, Node}
+use Rattle.warm_c.proofs.HandleLemmas.{peer_refused}
 use Rattle.warm_c.proofs.peer_exports.peer_open.Goals as goal
 
 pub returns-in_default-new : goal.returns-in_default-new

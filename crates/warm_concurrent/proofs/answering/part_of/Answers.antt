@@ -2,7 +2,7 @@ use Rattle.std.proofs.Common.{◌≡◌, ◌↔◌, ◌<◌, ◌≤◌, ◌+◌,
 use Rattle.std.specs.Prelude.{bit_or}
 use Rattle.std.specs.Int.{bit_at}
 use Rattle.warm_stamps.proofs.BucketLemmas.{rest_with, seen_with, seen_without}
-use Rattle.warm_concurrent.specs.ShardSteps.{shard_of_bucket}
+use Rattle.warm_shard_machine.specs.ShardSteps.{shard_of_bucket}
 use Rattle.warm_concurrent.proofs.answering.part_of.Goals.{then-is_in_part, else-is_in_part}
 use Rattle.warm_concurrent.proofs.answering.part_of.Goals as goal
 

@@ -1,6 +1,6 @@
 use Rattle.std.proofs.Common.{◌≡◌, ◌↔◌, ◌<◌, ◌≤◌, ℕ}
 use Rattle.std.specs.Int.{bit_at}
-use Rattle.warm_concurrent.specs.ShardSteps.{shard_of_bucket}
+use Rattle.warm_shard_machine.specs.ShardSteps.{shard_of_bucket}
 use Rattle.warm_concurrent.proofs.answering.part_of.Given as goal
 
 -- the part has those of the buckets so far, and none of the later ones

@@ -1,7 +1,7 @@
 use Rattle.std.proofs.Common.{◌≡◌, ◌≤◌, ℕ, ◌<◌, length, drop}
 use Rattle.warm_turn.specs.CallHistories.{Joined}
 use Rattle.warm_concurrent.specs.Attached.{AreOf, known_of, shard_pass}
-use Rattle.warm_concurrent.specs.ShardSteps.{ShardStep}
+use Rattle.warm_shard_machine.specs.ShardSteps.{ShardStep}
 use Rattle.warm_concurrent.proofs.attaching.end_all.Given as goal
 
 -- the first of the other passes are ended into these

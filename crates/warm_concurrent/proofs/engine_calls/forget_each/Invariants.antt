@@ -1,5 +1,5 @@
 use Rattle.std.proofs.Common.{◌≡◌, length}
-use Rattle.warm_concurrent.specs.declared.call.ShardCall.TheVariants.{ForgetPages}
+use Rattle.warm_shard_machine.specs.declared.calls.ShardCall.TheVariants.{ForgetPages}
 use Rattle.warm_concurrent.specs.Attached.{AreOf}
 use Rattle.warm_concurrent.specs.Whole.{DoneFirst}
 use Rattle.warm_concurrent.proofs.engine_calls.forget_each.Given as goal

@@ -5,12 +5,12 @@ use Rattle.std.proofs.lemmas.List.{length-append, nil_from_length}
 use Rattle.warm_stamps.specs.declared.Reference.{Reference}
 use Rattle.warm_shards.specs.Parts.{part_of_batch}
 use Rattle.warm_shards.specs.Shards.{shard_of}
-use Rattle.warm_concurrent.specs.declared.call.ShardCall.TheVariants.{Absorb}
-use Rattle.warm_concurrent.specs.declared.call.ShardReply.TheVariants.{Done}
+use Rattle.warm_shard_machine.specs.declared.calls.ShardCall.TheVariants.{Absorb}
+use Rattle.warm_shard_machine.specs.declared.calls.ShardReply.TheVariants.{Done}
 use Rattle.warm_concurrent.specs.Attached.{known_of}
 use Rattle.warm_concurrent.specs.Clauses.{Got}
 use Rattle.warm_concurrent.specs.Whole.{AbsorbsPart, ArePartsOf}
-use Rattle.warm_concurrent.proofs.Firsts.{one_first, same_first}
+use Rattle.warm_concurrent.proofs.FirstLemmas.{one_first, same_first}
 use Rattle.warm_concurrent.proofs.Parts.{part_at, part_owned}
 use Rattle.warm_concurrent.proofs.history_calls.absorb_parts.Goals as goal
 

@@ -6,13 +6,13 @@ use Rattle.warm_frames.specs.declared.message.Message.TheVariants.{Entries}
 use Rattle.warm_shards.specs.Parts.{part_of_entries}
 use Rattle.warm_shards.specs.Shards.{shard_of}
 use Rattle.warm_shards.proofs.PartEntries.{part_owned}
-use Rattle.warm_concurrent.specs.declared.call.ShardCall.{ShardCall}
-use Rattle.warm_concurrent.specs.declared.call.ShardCall.TheVariants.{TakeIn}
-use Rattle.warm_concurrent.specs.declared.call.ShardReply.TheVariants.{Done}
+use Rattle.warm_shard_machine.specs.declared.calls.ShardCall.{ShardCall}
+use Rattle.warm_shard_machine.specs.declared.calls.ShardCall.TheVariants.{TakeIn}
+use Rattle.warm_shard_machine.specs.declared.calls.ShardReply.TheVariants.{Done}
 use Rattle.warm_concurrent.specs.Attached.{known_of}
 use Rattle.warm_concurrent.specs.Clauses.{Got}
 use Rattle.warm_concurrent.specs.Whole.{TakesPart, part_call}
-use Rattle.warm_concurrent.proofs.Firsts.{one_first}
+use Rattle.warm_concurrent.proofs.FirstLemmas.{one_first}
 use Rattle.warm_concurrent.proofs.joining.take_parts.Goals as goal
 
 pub do_in-requires-clause-own : goal.do_in-requires-clause-own

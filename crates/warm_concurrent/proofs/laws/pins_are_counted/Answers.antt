@@ -1,5 +1,5 @@
 use Rattle.warm_concurrent.proofs.ClosePins.{pins_come_back}
-use Rattle.warm_concurrent.proofs.StepPins.{pins_are_given}
+use Rattle.warm_shard_machine.proofs.ShardPinLemmas.{pins_are_given}
 use Rattle.warm_concurrent.proofs.ThreadPins.{pins_are_counted}
 use Rattle.warm_concurrent.proofs.TwoPins.{two_threads_unpin}
 use Rattle.warm_concurrent.proofs.laws.pins_are_counted.Goals as goal

@@ -1,4 +1,4 @@
-use Rattle.warm_concurrent.proofs.Sent.{attached_send, shards_sync}
+use Rattle.warm_concurrent.proofs.SendLemmas.{attached_send, shards_sync}
 use Rattle.warm_concurrent.proofs.laws.shards_are_shared.Goals as goal
 
 pub returns : goal.returns

@@ -1,5 +1,5 @@
 use Rattle.std.proofs.Common.{length}
-use Rattle.warm_concurrent.proofs.Doing.{only_done}
+use Rattle.warm_shard_machine.proofs.DoneCallLemmas.{only_done}
 use Rattle.warm_concurrent.proofs.pool_calls.do_in.Goals as goal
 
 pub unreachable-requires : goal.unreachable-requires

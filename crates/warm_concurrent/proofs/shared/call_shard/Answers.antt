@@ -1,6 +1,6 @@
 use Rattle.std.proofs.Common.{◌≡◌, ◌<◌, length, arith}
 use Rattle.warm_concurrent.specs.Attached.{no_pass, shard_pass}
-use Rattle.warm_concurrent.proofs.Passing.{may}
+use Rattle.warm_concurrent.proofs.PassLemmas.{may}
 use Rattle.warm_concurrent.proofs.Places.{read_at}
 use Rattle.warm_concurrent.proofs.shared.call_shard.Goals as goal
 

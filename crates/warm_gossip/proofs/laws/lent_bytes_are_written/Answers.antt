@@ -1,4 +1,4 @@
-use Rattle.warm_gossip.proofs.Lents.{lent_bytes}
+use Rattle.warm_gossip.proofs.LendingLemmas.{lent_bytes}
 use Rattle.warm_gossip.proofs.laws.lent_bytes_are_written.Goals as goal
 
 pub returns : goal.returns

@@ -1,4 +1,4 @@
-use Rattle.warm_gossip.proofs.Given.{told_is_history}
+use Rattle.warm_gossip.proofs.GivenLemmas.{told_is_history}
 use Rattle.warm_gossip.proofs.laws.told_is_history.Goals as goal
 
 pub returns : goal.returns

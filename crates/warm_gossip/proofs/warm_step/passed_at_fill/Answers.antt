@@ -1,6 +1,6 @@
 use Rattle.std.proofs.Common.{◌≡◌, [], eqb-true, refl, sym, ◌∙◌, vec_len, arith}
 use Rattle.std.proofs.lemmas.List.{nil_from_length}
-use Rattle.warm_gossip.proofs.Passed.{passes_current, passes_none}
+use Rattle.warm_gossip.proofs.PassedLemmas.{passes_current, passes_none}
 use Rattle.warm_gossip.proofs.warm_step.passed_at_fill.Goals as goal
 
 -- pages of the list may have risen

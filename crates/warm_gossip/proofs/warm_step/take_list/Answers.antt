@@ -4,7 +4,7 @@ use Rattle.std.proofs.lemmas.Result.{err_from_is_err_and}
 use Rattle.warm_pool.specs.View.{view_of}
 use Rattle.warm_rank.specs.Relisting.{AreHottest}
 use Rattle.warm_gossip.specs.WarmingUp.{IsListed}
-use Rattle.warm_gossip.proofs.Passed.{kept_list, listed_first, none_kept}
+use Rattle.warm_gossip.proofs.PassedLemmas.{kept_list, listed_first, none_kept}
 use Rattle.warm_gossip.proofs.warm_step.take_list.Goals as goal
 
 -- no list is kept, and a new one is made

@@ -1,6 +1,6 @@
 use Rattle.std.proofs.Common.{◌≡◌, length}
 use Rattle.warm_player.specs.Fields.{digits_after, number_of}
-use Rattle.warm_player.specs.Heads.{leading_digits, after_digits}
+use Rattle.warm_player.specs.TextHeads.{leading_digits, after_digits}
 use Rattle.warm_player.proofs.fields.leading_number.Given as goal
 
 -- what follows goes on with the number so far

@@ -1,4 +1,4 @@
-use Rattle.warm_player.proofs.OnePass.{one_digit_read}
+use Rattle.warm_player.proofs.FieldLemmas.{one_digit_read}
 use Rattle.warm_player.proofs.fields.read_replica.Goals as goal
 
 pub returns-in-Some : goal.returns-in-Some

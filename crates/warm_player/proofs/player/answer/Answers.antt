@@ -5,7 +5,7 @@ use Rattle.warm_player.specs.Answers.{answer_text, refused_text, bad_line}
 use Rattle.warm_player.specs.declared.parse.Line.{Line}
 use Rattle.warm_player.specs.declared.parse.Line.TheVariants as meant
 use Rattle.warm_player.specs.declared.parse.LineFault.{LineFault}
-use Rattle.warm_random.proofs.Written.{Appends-none}
+use Rattle.warm_random.proofs.AppendLemmas.{Appends-none}
 use Rattle.warm_player.proofs.Stream.{answers_event, answers_bad, answers_no_memory, answers_nothing, done, was_bad, was_line, was_put}
 use Rattle.warm_player.proofs.player.answer.Goals as goal
 

@@ -4,7 +4,7 @@ use Rattle.std.specs.Io.KnownBytes.{Appends}
 use Rattle.std.proofs.lemmas.Grind.{flat_map-append}
 use Rattle.std.proofs.lemmas.List.{append-nil}
 use Rattle.std.proofs.lemmas.List.Concat.{flat_map-cons}
-use Rattle.warm_random.proofs.Written.{Appends-none, Appends-then}
+use Rattle.warm_random.proofs.AppendLemmas.{Appends-none, Appends-then}
 use Rattle.warm_player.specs.Answers.{entry_text}
 use Rattle.warm_player.proofs.printer.print_entries.Goals as goal
 

@@ -1,6 +1,6 @@
 use Rattle.std.proofs.Common.{◌∷◌, ap, sym, ◌∙◌, List, ℕ, take, arith}
 use Rattle.warm_player.specs.Text.{split}
-use Rattle.warm_player.proofs.Split.{cut_found, cut_none, rest_is}
+use Rattle.warm_player.proofs.SplitLemmas.{cut_found, cut_none, rest_is}
 use Rattle.warm_player.proofs.text.cut.Goals as goal
 
 pub returns-then-text-i-clause-pieces : goal.returns-then-text-i-clause-pieces

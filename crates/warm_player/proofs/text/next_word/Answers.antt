@@ -1,5 +1,5 @@
 use Rattle.std.proofs.Common.{◌∙◌, sym}
-use Rattle.warm_player.proofs.Split.{words_skip, words_first, words_last, words_none, no_bytes, some_bytes}
+use Rattle.warm_player.proofs.SplitLemmas.{words_skip, words_first, words_last, words_none, no_bytes, some_bytes}
 use Rattle.warm_player.proofs.text.next_word.Goals as goal
 
 pub returns-then-not-is_empty : goal.returns-then-not-is_empty

@@ -1,6 +1,6 @@
 use Rattle.std.proofs.Common.{◌≡◌, ℕ, ◌<◌, IsTrue}
-use Rattle.warm_pool.specs.Frames.{nth_frame}
-use Rattle.warm_pool.specs.WritingBack.{selects}
+use Rattle.warm_frame_table.specs.Frames.{nth_frame}
+use Rattle.warm_frame_table.specs.Selection.{selects}
 use Rattle.warm_pool.proofs.close.is_fixed.Given as goal
 
 abbrev pub invariant-loop-at : goal.invariant-loop-at

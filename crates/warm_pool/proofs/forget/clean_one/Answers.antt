@@ -1,5 +1,5 @@
 use Rattle.std.proofs.Common.{sym, ◌∙◌, ap}
-use Rattle.warm_pool.specs.WritingBack.{selects}
+use Rattle.warm_frame_table.specs.Selection.{selects}
 use Rattle.warm_pool.proofs.ForgetLemmas.{not_selected, selected}
 use Rattle.warm_pool.proofs.forget.clean_one.Goals as goal
 

@@ -1,6 +1,6 @@
 use Rattle.std.proofs.Common.{ap}
 use Rattle.warm_pool.proofs.ForgetLemmas.{forgotten_frames}
-use Rattle.warm_pool.proofs.frame_table.VacateLemmas.{clean_to}
+use Rattle.warm_pool.proofs.ClosingLemmas.{clean_to}
 use Rattle.warm_pool.proofs.forget.forget.Goals as goal
 
 pub vacate_selected-requires : goal.vacate_selected-requires

@@ -1,4 +1,4 @@
-use Rattle.warm_pool.proofs.Lents.{lent_page}
+use Rattle.warm_pool.proofs.LendingLemmas.{lent_page}
 use Rattle.warm_pool.proofs.laws.lent_page_is_written.Goals as goal
 
 pub returns : goal.returns

@@ -1,6 +1,6 @@
 use Rattle.std.proofs.Common.{◌≤◌, length, replicate, ap, sym, subst, refl, ◌∙◌}
 use Rattle.warm_devices.specs.declared.TheConstants.{MAX_PAGE_SIZE}
-use Rattle.warm_pool.proofs.Zeroes.{zeros_left, loaded_there, loaded_bytes}
+use Rattle.warm_pool.proofs.ZeroingLemmas.{zeros_left, loaded_there, loaded_bytes}
 use Rattle.warm_pool.proofs.zeroed.install_zeros.Goals as goal
 
 pub bytes_mut-requires : goal.bytes_mut-requires

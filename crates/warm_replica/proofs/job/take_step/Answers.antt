@@ -1,4 +1,4 @@
-use Rattle.warm_replica.proofs.StepGives.{touched, was_flushed, was_full, was_kept, was_spent}
+use Rattle.warm_replica.proofs.StepLemmas.{touched, was_flushed, was_full, was_kept, was_spent}
 use Rattle.warm_replica.proofs.job.take_step.Goals as goal
 
 pub returns-in-Ok-clause-went : goal.returns-in-Ok-clause-went

@@ -3,7 +3,7 @@ use Rattle.warm_gossip.specs.declared.call.Call.TheVariants.{Write}
 use Rattle.warm_gossip.specs.declared.call.Reply.TheVariants.{Done}
 use Rattle.warm_gossip.specs.Clauses.{Goes}
 use Rattle.warm_gossip.specs.Lending.{relent_node}
-use Rattle.warm_gossip.proofs.Lents.{lent_bytes}
+use Rattle.warm_gossip.proofs.LendingLemmas.{lent_bytes}
 use Rattle.warm_pool.specs.PageBytes.{IsLent}
 use Rattle.warm_pool.specs.State.{IsPool}
 use Rattle.warm_pool.specs.View.{view_of}

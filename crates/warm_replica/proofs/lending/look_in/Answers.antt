@@ -2,7 +2,7 @@ use Rattle.std.proofs.Common.{subst}
 use Rattle.warm_pool.specs.PageBytes.{IsLent}
 use Rattle.warm_pool.specs.State.{PoolState}
 use Rattle.warm_pool.specs.View.{view_of}
-use Rattle.warm_replica.proofs.Looks.{lent_shown}
+use Rattle.warm_replica.proofs.LentPageLemmas.{lent_shown}
 use Rattle.warm_replica.proofs.lending.look_in.Goals as goal
 
 pub returns-clause-page : goal.returns-clause-page

@@ -1,4 +1,4 @@
-use Rattle.warm_replica.proofs.Mails.{posts_lost}
+use Rattle.warm_replica.proofs.MailLemmas.{posts_lost}
 use Rattle.warm_replica.proofs.listen.post_one.Goals as goal
 
 pub returns-in_default-clause-posted : goal.returns-in_default-clause-posted

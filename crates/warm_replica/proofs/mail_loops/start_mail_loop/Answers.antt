@@ -1,6 +1,6 @@
 use denote.Param.Send.{sendable}
 use Rattle.std.proofs.Crossing.{crosses}
-use Rattle.warm_replica.proofs.Sent.{report_send, worker_send, mail_loop_send}
+use Rattle.warm_replica.proofs.SendLemmas.{report_send, worker_send, mail_loop_send}
 use Rattle.warm_replica.proofs.mail_loops.start_mail_loop.Goals as goal
 
 pub spawn_with-requires-send-F : goal.spawn_with-requires-send-F

@@ -1,7 +1,7 @@
 use Rattle.std.proofs.Common.{◌++◌, ◌∷◌, [], ◌∙◌, ap, sym, length, replicate, vec_capacity, append_assoc, arith}
 use Rattle.std.proofs.lemmas.List.{length-append, length-replicate}
 use Rattle.warm_replica.specs.declared.job.StepReply.TheVariants.{Touched}
-use Rattle.warm_replica.proofs.Counted.{ended_more, run_fits}
+use Rattle.warm_replica.proofs.ReplyLemmas.{ended_more, run_fits}
 use Rattle.warm_replica.proofs.replies.push_runs.Goals as goal
 
 pub loop-run-init : goal.loop-run-init

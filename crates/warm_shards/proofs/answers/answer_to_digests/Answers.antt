@@ -5,7 +5,7 @@ use Rattle.warm_frames.specs.declared.message.Message.TheVariants.{Want}
 use Rattle.warm_peer.proofs.AnswerLemmas.{some_differ}
 use Rattle.warm_peer.specs.Answers.{requested_messages}
 use Rattle.warm_shards.specs.Shards.{shard_at, whole}
-use Rattle.warm_shards.proofs.Answering.{request_horizon, request_id, requested_same}
+use Rattle.warm_shards.proofs.AnswerLemmas.{request_horizon, request_id, requested_same}
 use Rattle.warm_shards.proofs.answers.answer_to_digests.Goals as goal
 
 pub returns-clause-answer : goal.returns-clause-answer

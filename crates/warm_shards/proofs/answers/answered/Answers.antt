@@ -3,7 +3,7 @@ use Rattle.warm_frames.specs.Limits.{horizon_in}
 use Rattle.warm_frames.specs.declared.message.Message.{Message}
 use Rattle.warm_peer.specs.Answers.{IsAnswer}
 use Rattle.warm_shards.specs.Shards.{shard_at, whole}
-use Rattle.warm_shards.proofs.Asked.{digests_asked, not_later, request_asked}
+use Rattle.warm_shards.proofs.AnswerLemmas.{digests_asked, not_later, request_asked}
 use Rattle.warm_shards.proofs.Calls.{same_none}
 use Rattle.warm_shards.proofs.answers.answered.Goals as goal
 

@@ -2,10 +2,10 @@ use Rattle.std.proofs.Common.{◌≡◌, refl, sym, ◌∙◌, arith}
 use Rattle.warm_history.specs.Histories.{entries_of}
 use Rattle.warm_digest.specs.BucketDigests.{digests_of}
 use Rattle.warm_shards.specs.Shards.{whole}
-use Rattle.warm_shards.proofs.Absorbing.{some_shards}
-use Rattle.warm_shards.proofs.Answering.{digests_next, offer_refused, same_next}
+use Rattle.warm_shards.proofs.AreShardsLemmas.{some_shards}
+use Rattle.warm_shards.proofs.AnswerLemmas.{digests_next, offer_refused, same_next}
 use Rattle.warm_shards.proofs.Calls.{same_none}
-use Rattle.warm_shards.proofs.Gathering.{all_gathered}
+use Rattle.warm_shards.proofs.DigestLemmas.{all_gathered}
 use Rattle.warm_shards.proofs.answers.gathered.Goals as goal
 
 pub loop-shard-init : goal.loop-shard-init

@@ -3,7 +3,7 @@ use Rattle.warm_stamps.specs.declared.TheConstants.{BUCKETS}
 use Rattle.warm_history.specs.Histories.{entries_of}
 use Rattle.warm_shards.specs.Clauses.{SameShards}
 use Rattle.warm_shards.specs.Shards.{whole}
-use Rattle.warm_shards.proofs.Gathering.{AreGathered}
+use Rattle.warm_shards.proofs.DigestLemmas.{AreGathered}
 use Rattle.warm_shards.proofs.answers.gathered.Given as goal
 
 -- the digests of the first shards' buckets

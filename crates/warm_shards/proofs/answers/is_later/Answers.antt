@@ -1,7 +1,7 @@
 use Rattle.std.proofs.Common.{ℕ, ◌<◌, sym, ap, subst, ◌∙◌}
 use Rattle.std.proofs.lemmas.Bool.{lt-ltb, ltb-true}
 use Rattle.warm_history.specs.Histories.{HistoryView}
-use Rattle.warm_shards.proofs.Asked.{first_horizon}
+use Rattle.warm_shards.proofs.AnswerLemmas.{first_horizon}
 use Rattle.warm_shards.proofs.answers.is_later.Goals as goal
 
 pub returns : goal.returns

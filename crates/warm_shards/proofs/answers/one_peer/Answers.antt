@@ -3,9 +3,9 @@ use Rattle.warm_history.specs.Histories.{HistoryView, join}
 use Rattle.warm_gossip.specs.State.{NodeState}
 use Rattle.warm_peer.specs.State.{PeerState}
 use Rattle.warm_shards.specs.Shards.{shard_at, whole}
-use Rattle.warm_shards.proofs.Absorbing.{some_shards}
+use Rattle.warm_shards.proofs.AreShardsLemmas.{some_shards}
 use Rattle.warm_shards.proofs.Calls.{read_at}
-use Rattle.warm_shards.proofs.Taking.{none_joined, whole_more}
+use Rattle.warm_shards.proofs.WholeLemmas.{none_joined, whole_more}
 use Rattle.warm_shards.proofs.answers.one_peer.Goals as goal
 
 pub loop-shard-init : goal.loop-shard-init

@@ -3,8 +3,8 @@ use Rattle.warm_frames.specs.Chunks.{bucket_messages}
 use Rattle.warm_peer.specs.State.{PeerState}
 use Rattle.warm_peer.proofs.AnswerLemmas.{all_requested, one_bucket_more}
 use Rattle.warm_shards.specs.Shards.{shard_at, whole}
-use Rattle.warm_shards.proofs.Absorbing.{some_shards}
-use Rattle.warm_shards.proofs.Answering.{messages_at}
+use Rattle.warm_shards.proofs.AreShardsLemmas.{some_shards}
+use Rattle.warm_shards.proofs.AnswerLemmas.{messages_at}
 use Rattle.warm_shards.proofs.answers.requested.Goals as goal
 
 pub loop-bucket-preserved : goal.loop-bucket-preserved

@@ -1,41 +1,33 @@
-use Rattle.std.proofs.Common.{◌≡◌, ℕ, refl, subst, ◌∙◌}
-use Rattle.std.specs.Prelude.{IfErr, OnOk}
+use Rattle.std.proofs.Common.{◌≡◌, Err, subst, ◌∙◌, arith}
 use Rattle.std.proofs.lemmas.Result.{err_from_is_err_and}
 use Rattle.warm_history.specs.Histories.{HistoryView, history_of_entries_at, references_of}
-use Rattle.warm_gossip.specs.declared.call.Call.TheVariants.{Horizon}
-use Rattle.warm_gossip.specs.declared.call.Reply.TheVariants.{Kept}
-use Rattle.warm_gossip.specs.declared.fault.NodeFault.TheVariants.{Memory}
-use Rattle.warm_shards.specs.Clauses.{JoinsAll, TakesInFirst, Together}
-use Rattle.warm_shards.proofs.Calls.{keep_then}
-use Rattle.warm_shards.proofs.Receiving.{first_ok, joined_ok, raised_alone, raised_late}
+use Rattle.warm_shards.specs.Given.{Gives}
+use Rattle.warm_shards.proofs.GivenLemmas.{gives_none, raised_gives, raised_late}
 use Rattle.warm_shards.proofs.gossip.join_all.Goals as goal
 
-pub returns-in_err-entries-clause-refused : goal.returns-in_err-entries-clause-refused
-returns-in_err-entries-clause-refused g c =
+pub returns-in_err-entries : goal.returns-in_err-entries
+returns-in_err-entries g c =
     let given = err_from_is_err_and c.from_residual.result c.from_residual.ensures.1 in
+    let old = c.args.nodes.now.items in
     let mid = c.raise_all.new.nodes.items in
-    rw (given.1) (given.2, raised_alone c.args.nodes.now.items mid mid c.horizon.result c.raise_all.result (references_of c.args.other.now) c.requires c.horizon.ensures.value c.raise_all.ensures.step refl)
+    let S = references_of c.args.other.now in
+    let raised = c.raise_all.ensures.given in
+    rw (given.1) (raised_gives old mid mid c.horizon.result S (Err given.0) c.horizon.ensures.value raised (gives_none S mid given.0 raised.shards (omega (arith, c.horizon.ensures.value, raised_late old mid c.horizon.result raised)) given.2))
+
+pub join_parts-requires-clause-shards : goal.join_parts-requires-clause-shards
+join_parts-requires-clause-shards g c = c.raise_all.ensures.given.shards
 
 pub join_parts-requires-clause-raised : goal.join_parts-requires-clause-raised
 join_parts-requires-clause-raised g c =
-    let mid = c.raise_all.new.nodes.items in
-    let late = raised_late c.args.nodes.now.items mid c.horizon.result c.raise_all.result c.raise_all.ensures.shards c.raise_all.ensures.step in
-    rw (c.horizon-2.ensures.value) (rw (c.horizon.ensures.value) at late)
+    let late = raised_late c.args.nodes.now.items c.raise_all.new.nodes.items c.horizon.result c.raise_all.ensures.given in
+    omega (arith, c.horizon.ensures.value, c.horizon-2.ensures.value, late)
 
 pub returns : goal.returns
 returns g c =
     let old = c.args.nodes.now.items in
     let mid = c.raise_all.new.nodes.items in
     let new = c.join_parts.new.nodes.items in
-    let other = c.args.other.now in
-    let raised = subst (λ (x : ℕ). Together old (Horizon x) (Kept c.raise_all.result) mid) c.horizon.ensures.value c.raise_all.ensures.step in
     let entries = c.deref.ensures.value ∙ c.in_ok-entries.ensures in
     let horizon = c.horizon-2.ensures.value in
-    let same : history_of_entries_at c.horizon-2.result c.deref.result.now ≡ other = λ i. history_of_entries_at (horizon i) (entries i) in
-    record {
-      shards = c.join_parts.ensures.shards;
-      joined = joined_ok old mid new c.raise_all.result other c.join_parts.result raised (subst (λ (h : HistoryView). OnOk c.join_parts.result (JoinsAll mid h new)) same c.join_parts.ensures.joined);
-      refused = first_ok old mid new other.horizon c.raise_all.result (references_of other) c.join_parts.result refl c.raise_all.ensures.pools.count raised
-          (subst (λ (h : HistoryView). IfErr c.join_parts.result (λ why. (why ≡ Memory) × TakesInFirst mid (references_of h) new)) same c.join_parts.ensures.refused);
-      pools = keep_then old mid new c.raise_all.ensures.pools c.join_parts.ensures.pools;
-    }
+    let same : history_of_entries_at c.horizon-2.result c.deref.result.now ≡ c.args.other.now = λ i. history_of_entries_at (horizon i) (entries i) in
+    raised_gives old mid new c.horizon.result (references_of c.args.other.now) c.join_parts.result c.horizon.ensures.value c.raise_all.ensures.given (subst (λ (h : HistoryView). Gives (references_of h) mid c.join_parts.result new) same c.join_parts.ensures)

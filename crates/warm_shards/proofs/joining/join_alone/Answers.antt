@@ -1,18 +1,13 @@
-use Rattle.warm_shards.proofs.Alone.{joined_alone, joined_pools, joined_shards, unjoined}
+use Rattle.std.proofs.Common.{◌≡◌, length}
+use Rattle.warm_history.specs.Histories.{history_of_entries_at, references_of}
+use Rattle.warm_shards.specs.Shards.{shard_of}
+use Rattle.warm_shards.proofs.GivenLemmas.{gives_alone, joins}
+use Rattle.warm_shards.proofs.Pages.{all_held}
 use Rattle.warm_shards.proofs.joining.join_alone.Goals as goal
 
-pub returns-clause-shards : goal.returns-clause-shards
-returns-clause-shards g c =
-    joined_shards c.args.nodes.now.items c.args.shard c.args.horizon c.args.entries.now c.index_mut.result.now c.join_entries.new.self c.index_mut.result.now c.join_entries.result c.requires.shards c.requires.there c.requires.own c.requires.raised c.index_mut.ensures.value c.join_entries.ensures.joined c.join_entries.ensures.refused c.join_entries.ensures.devices
-
-pub returns-clause-joined : goal.returns-clause-joined
-returns-clause-joined g c =
-    joined_alone c.args.nodes.now.items c.args.shard c.args.horizon c.args.entries.now c.index_mut.result.now c.join_entries.new.self c.index_mut.result.now c.join_entries.result c.requires.there c.requires.own c.requires.raised c.index_mut.ensures.value c.join_entries.ensures.joined c.join_entries.ensures.devices
-
-pub returns-clause-refused : goal.returns-clause-refused
-returns-clause-refused g c =
-    unjoined c.args.nodes.now.items c.args.shard c.args.horizon c.args.entries.now c.index_mut.result.now c.join_entries.new.self c.index_mut.result.now c.join_entries.result c.requires.shards c.requires.there c.requires.raised c.index_mut.ensures.value c.join_entries.ensures.refused c.join_entries.ensures.devices
-
-pub returns-clause-pools : goal.returns-clause-pools
-returns-clause-pools g c =
-    joined_pools c.args.nodes.now.items c.args.shard c.args.horizon c.args.entries.now c.index_mut.result.now c.join_entries.new.self c.index_mut.result.now c.join_entries.result c.requires.there c.requires.own c.requires.raised c.index_mut.ensures.value c.join_entries.ensures.joined c.join_entries.ensures.refused c.join_entries.ensures.devices
+pub returns : goal.returns
+returns g c =
+    let es = c.args.entries.now in
+    let own = all_held (λ p. shard_of (length c.args.nodes.now.items) p ≡ c.args.shard) es c.requires.own in
+    gives_alone (references_of (history_of_entries_at c.args.horizon es)) c.args.nodes.now.items c.args.shard c.index_mut.result.now c.join_entries.new.self c.index_mut.result.now c.join_entries.result c.requires.shards c.requires.there c.requires.raised own c.index_mut.ensures.value
+    (joins c.args.horizon es c.index_mut.result.now c.join_entries.new.self c.join_entries.result c.join_entries.ensures.joined c.join_entries.ensures.refused c.join_entries.ensures.devices)

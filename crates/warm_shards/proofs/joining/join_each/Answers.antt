@@ -1,78 +1,68 @@
-use Rattle.std.proofs.Common.{◌≡◌, [], length, sym, ap, ◌∙◌, arith}
+use Rattle.std.proofs.Common.{◌≡◌, inr, length, sym, ap, ◌∙◌, arith}
+use Rattle.std.specs.Global.{Vec}
 use Rattle.std.proofs.lemmas.Result.{err_from_is_err_and}
+use Rattle.std.proofs.lemmas.Bool.{eqb-false, eqb-true}
+use Rattle.warm_history.specs.declared.hist.Entry.{Entry}
 use Rattle.warm_history.specs.Histories.{history_of_entries_at, references_of}
 use Rattle.warm_shards.specs.Parts.{part_of_entries}
-use Rattle.warm_shards.proofs.PartEntries.{part_none, said_none, said_some}
-use Rattle.warm_shards.proofs.TakingIn.{all_taken, none_have, part_joined, part_refused, past_have, some_have}
+use Rattle.warm_shards.proofs.GivenLemmas.{given_more, given_past, given_stays, gives_all, gives_first, gives_none, none_given}
+use Rattle.warm_shards.proofs.PartEntries.{held_none, held_some, part_refs, part_some}
 use Rattle.warm_shards.proofs.joining.join_each.Goals as goal
+
+pub returns-in_err-parts : goal.returns-in_err-parts
+returns-in_err-parts g c =
+    let given = err_from_is_err_and c.from_residual.result c.from_residual.ensures.1 in
+    rw (given.1) (gives_none (references_of (history_of_entries_at c.args.horizon c.args.entries.now)) c.args.nodes.now.items given.0 c.requires.shards c.requires.raised given.2)
 
 pub loop-shard-init : goal.loop-shard-init
 loop-shard-init g c = record {
-  taken = none_have c.args.nodes.now.items (references_of (history_of_entries_at c.args.horizon c.args.entries.now)) c.requires.shards c.requires.raised;
+  first = none_given (references_of (history_of_entries_at c.args.horizon c.args.entries.now)) c.args.nodes.now.items;
   count = omega (arith, c.args.nodes.now.ok.0);
 }
 
-pub loop-shard-preserved-then-not-has_part : goal.loop-shard-preserved-then-not-has_part
-loop-shard-preserved-then-not-has_part g c =
-    let i = c.loop-shard.invariant in
+pub loop-shard-preserved-then-is_empty : goal.loop-shard-preserved-then-is_empty
+loop-shard-preserved-then-is_empty g c =
+    let S = references_of (history_of_entries_at c.args.horizon c.args.entries.now) in
     let old = c.args.nodes.now.items in
+    let i = c.loop-shard.invariant in
     let k = c.loop-shard.shard in
-    let es = c.args.entries.now in
-    let none : part_of_entries c.len-count.result k es ≡ [] = said_none c.has_part.result (part_of_entries c.len-count.result k es) c.has_part.ensures.1 c.if-not-has_part.true in
+    let part = c.as_slice-part.result.now in
+    let is : part ≡ part_of_entries c.len-count.result k c.args.entries.now = c.as_slice-part.ensures.value ∙ ap (λ (v : Vec Entry). v.items) c.index.ensures ∙ c.in_ok-parts.ensures.part k c.index.result.now c.loop-shard-test.true in
+    let own = part_refs c.len-count.result (length old) k c.args.horizon c.args.entries.now part i.count is in
     record {
-      taken = past_have old c.loop-shard.nodes.items (references_of (history_of_entries_at c.args.horizon es)) k (part_none (length old) k c.args.horizon es (ap (λ n. part_of_entries n k es) (sym i.count) ∙ none)) i.taken;
+      first = given_past S (references_of (history_of_entries_at c.args.horizon part)) k old c.loop-shard.nodes.items c.requires.shards (omega (arith, i.count, c.loop-shard-test.true)) c.requires.raised own (held_none part (eqb-true (length part) 0 (sym c.is_empty.ensures ∙ c.if-is_empty.true))) i.first;
       count = i.count;
     }
 
 pub loop-shard-preserved : goal.loop-shard-preserved
-loop-shard-preserved g c = record {
-  taken = part_joined c.args.nodes.now.items c.loop-shard.nodes.items c.len-count.result c.loop-shard.shard c.args.horizon c.args.entries.now c.deref.result.now c.index_mut.result.now c.join_entries.new.self c.index_mut.result.now c.loop-shard.invariant.count c.loop-shard-test.true
-      (c.deref.ensures.value ∙ c.in_ok-part.ensures) c.index_mut.ensures.value c.in_ok-join_entries.ensures.joined c.in_ok-join_entries.ensures.devices c.loop-shard.invariant.taken;
-  count = c.loop-shard.invariant.count;
-}
-
-pub returns-in_err-part-clause-shards : goal.returns-in_err-part-clause-shards
-returns-in_err-part-clause-shards g c = c.loop-shard.invariant.taken.shards
-
-pub returns-in_err-part-clause-refused : goal.returns-in_err-part-clause-refused
-returns-in_err-part-clause-refused g c =
-    let given = err_from_is_err_and c.from_residual.result c.from_residual.ensures.1 in
-    let i = c.loop-shard.invariant in
+loop-shard-preserved g c =
     let S = references_of (history_of_entries_at c.args.horizon c.args.entries.now) in
-    let part = said_some c.len-count.result (length c.args.nodes.now.items) c.loop-shard.shard c.args.horizon c.args.entries.now i.count (c.has_part.ensures.0 c.if-not-has_part.false) in
-    rw (given.1) (given.2, some_have c.args.nodes.now.items c.loop-shard.nodes.items S c.loop-shard.shard (omega (arith, i.count, c.loop-shard-test.true)) part i.taken)
-
-pub returns-in_err-part-clause-pools : goal.returns-in_err-part-clause-pools
-returns-in_err-part-clause-pools g c = c.loop-shard.invariant.taken.pools
-
-pub returns-in_err-join_entries-clause-shards : goal.returns-in_err-join_entries-clause-shards
-returns-in_err-join_entries-clause-shards g c =
-    (part_refused c.args.nodes.now.items c.loop-shard.nodes.items (references_of (history_of_entries_at c.args.horizon c.args.entries.now)) c.len-count.result c.loop-shard.shard c.index_mut.result.now c.join_entries.new.self c.index_mut.result.now c.loop-shard.invariant.count c.loop-shard-test.true c.index_mut.ensures.value
-    c.in_err-join_entries.ensures.refused.1 c.in_err-join_entries.ensures.devices c.loop-shard.invariant.taken).shards
-
-pub returns-in_err-join_entries-clause-refused : goal.returns-in_err-join_entries-clause-refused
-returns-in_err-join_entries-clause-refused g c =
-    let given = err_from_is_err_and c.from_residual-in_err-join_entries.result c.from_residual-in_err-join_entries.ensures.1 in
-    let i = c.loop-shard.invariant in
     let old = c.args.nodes.now.items in
+    let i = c.loop-shard.invariant in
     let k = c.loop-shard.shard in
+    let part = c.as_slice-part.result.now in
+    let is : part ≡ part_of_entries c.len-count.result k c.args.entries.now = c.as_slice-part.ensures.value ∙ ap (λ (v : Vec Entry). v.items) c.index.ensures ∙ c.in_ok-parts.ensures.part k c.index.result.now c.loop-shard-test.true in
+    let own = part_refs c.len-count.result (length old) k c.args.horizon c.args.entries.now part i.count is in
+    record {
+      first = given_more S (references_of (history_of_entries_at c.args.horizon part)) k old c.loop-shard.nodes.items c.index_mut.result.now c.join_entries.new.self c.index_mut.result.now (omega (arith, i.first.count, i.count, c.loop-shard-test.true)) c.index_mut.ensures.value own (c.in_ok-join_entries.ensures.joined, c.in_ok-join_entries.ensures.devices) i.first;
+      count = i.count;
+    }
+
+pub returns-in_err-join_entries : goal.returns-in_err-join_entries
+returns-in_err-join_entries g c =
+    let given = err_from_is_err_and c.from_residual-in_err-join_entries.result c.from_residual-in_err-join_entries.ensures.1 in
     let S = references_of (history_of_entries_at c.args.horizon c.args.entries.now) in
+    let old = c.args.nodes.now.items in
+    let i = c.loop-shard.invariant in
+    let k = c.loop-shard.shard in
+    let part = c.as_slice-part.result.now in
+    let is : part ≡ part_of_entries c.len-count.result k c.args.entries.now = c.as_slice-part.ensures.value ∙ ap (λ (v : Vec Entry). v.items) c.index.ensures ∙ c.in_ok-parts.ensures.part k c.index.result.now c.loop-shard-test.true in
+    let own = part_refs c.len-count.result (length old) k c.args.horizon c.args.entries.now part i.count is in
     let refused = c.in_err-join_entries.ensures.refused in
-    let have = part_refused old c.loop-shard.nodes.items S c.len-count.result k c.index_mut.result.now c.join_entries.new.self c.index_mut.result.now i.count c.loop-shard-test.true c.index_mut.ensures.value refused.1 c.in_err-join_entries.ensures.devices i.taken in
-    let part = said_some c.len-count.result (length old) k c.args.horizon c.args.entries.now i.count (c.has_part.ensures.0 c.if-not-has_part.false) in
-    rw (given.1) (given.2 ∙ refused.0, some_have old _ S k (omega (arith, i.count, c.loop-shard-test.true)) part have)
+    let some = part_some S (references_of (history_of_entries_at c.args.horizon part)) (length old) k own (held_some part (eqb-false (length part) 0 (sym c.is_empty.ensures ∙ c.if-is_empty.false))) in
+    let first = given_stays S k k old c.loop-shard.nodes.items c.index_mut.result.now c.join_entries.new.self c.index_mut.result.now (omega (arith, i.first.count, i.count, c.loop-shard-test.true)) (omega arith) c.index_mut.ensures.value (refused.1, c.in_err-join_entries.ensures.devices) i.first in
+    rw (given.1) (gives_first S k old _ given.0 c.requires.shards c.requires.raised (given.2 ∙ refused.0) (omega (arith, i.count, c.loop-shard-test.true)) (inr some) first)
 
-pub returns-in_err-join_entries-clause-pools : goal.returns-in_err-join_entries-clause-pools
-returns-in_err-join_entries-clause-pools g c =
-    (part_refused c.args.nodes.now.items c.loop-shard.nodes.items (references_of (history_of_entries_at c.args.horizon c.args.entries.now)) c.len-count.result c.loop-shard.shard c.index_mut.result.now c.join_entries.new.self c.index_mut.result.now c.loop-shard.invariant.count c.loop-shard-test.true c.index_mut.ensures.value
-    c.in_err-join_entries.ensures.refused.1 c.in_err-join_entries.ensures.devices c.loop-shard.invariant.taken).pools
-
-pub returns-clause-shards : goal.returns-clause-shards
-returns-clause-shards g c = c.loop-shard.invariant.taken.shards
-
-pub returns-clause-joined : goal.returns-clause-joined
-returns-clause-joined g c =
-    all_taken c.args.nodes.now.items c.loop-shard.nodes.items (references_of (history_of_entries_at c.args.horizon c.args.entries.now)) c.len-count.result c.loop-shard.shard c.loop-shard.invariant.count c.loop-shard-test.false c.loop-shard.auto.shard-end c.requires.shards c.loop-shard.invariant.taken
-
-pub returns-clause-pools : goal.returns-clause-pools
-returns-clause-pools g c = c.loop-shard.invariant.taken.pools
+pub returns : goal.returns
+returns g c =
+    gives_all (references_of (history_of_entries_at c.args.horizon c.args.entries.now)) c.loop-shard.shard c.args.nodes.now.items c.loop-shard.nodes.items tt c.requires.shards (omega (arith, c.loop-shard.invariant.count, c.loop-shard-test.false)) c.loop-shard.invariant.first

@@ -1,4 +1,4 @@
-use Rattle.warm_shards.proofs.Staying.{steps_stay}
+use Rattle.warm_shards.proofs.HoldsPagesLemmas.{steps_stay}
 use Rattle.warm_shards.proofs.laws.steps_stay_in_shard.Goals as goal
 
 pub returns : goal.returns

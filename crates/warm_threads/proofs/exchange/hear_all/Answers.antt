@@ -1,4 +1,4 @@
-use Rattle.warm_threads.proofs.Exchangings.{received_more}
+use Rattle.warm_threads.proofs.ExchangeLemmas.{received_more}
 use Rattle.warm_threads.proofs.exchange.hear_all.Goals.{in-Bytes+in_ok-receive-in-Bytes, in-Stop}
 use Rattle.warm_threads.proofs.exchange.hear_all.Goals as goal
 

@@ -3,7 +3,7 @@ use Rattle.warm_history.specs.declared.hist.Entry.{Entry}
 use Rattle.warm_frames.specs.declared.message.Message.{Message}
 use Rattle.warm_peer.specs.Chunks.{last_page}
 use Rattle.warm_frames.specs.Limits.{entries_in}
-use Rattle.warm_threads.proofs.Exchangings.{last_page_at}
+use Rattle.warm_threads.proofs.ExchangeLemmas.{last_page_at}
 use Rattle.warm_threads.proofs.exchange.next_after.Goals as goal
 
 pub returns-in-Some-clause-last : goal.returns-in-Some-clause-last

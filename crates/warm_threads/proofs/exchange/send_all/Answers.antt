@@ -1,7 +1,7 @@
 use Rattle.std.proofs.Common.{ℕ, None, subst}
 use Rattle.warm_threads.specs.Exchanges.{SendsBucket}
 use Rattle.warm_threads.specs.Works.{LeadsBy}
-use Rattle.warm_threads.proofs.Exchangings.{sent_more}
+use Rattle.warm_threads.proofs.ExchangeLemmas.{sent_more}
 use Rattle.warm_threads.proofs.exchange.send_all.Goals as goal
 
 pub loop-number-preserved : goal.loop-number-preserved

@@ -1,4 +1,4 @@
-use Rattle.warm_threads.proofs.Exchangings.{HaveSent}
+use Rattle.warm_threads.proofs.ExchangeLemmas.{HaveSent}
 use Rattle.warm_threads.proofs.exchange.send_all.Given as goal
 
 -- the buckets so far were sent

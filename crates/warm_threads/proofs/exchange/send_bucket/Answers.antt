@@ -1,5 +1,5 @@
 use Rattle.std.proofs.Common.{refl}
-use Rattle.warm_threads.proofs.Exchangings.{sending_more, sending_last}
+use Rattle.warm_threads.proofs.ExchangeLemmas.{sending_more, sending_last}
 use Rattle.warm_threads.proofs.exchange.send_bucket.Goals as goal
 
 pub returns-in_default : goal.returns-in_default

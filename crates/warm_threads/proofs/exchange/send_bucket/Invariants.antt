@@ -1,4 +1,4 @@
-use Rattle.warm_threads.proofs.Exchangings.{IsSending}
+use Rattle.warm_threads.proofs.ExchangeLemmas.{IsSending}
 use Rattle.warm_threads.proofs.exchange.send_bucket.Given as goal
 
 -- what the bucket has up to this page was sent

@@ -1,5 +1,5 @@
 use Rattle.std.proofs.Common.{◌≡◌, ◌-◌, ◌<◌, length, arith}
-use Rattle.warm_threads.proofs.Plannings.{has_numbers, plans_more}
+use Rattle.warm_threads.proofs.PlanLemmas.{has_numbers, plans_more}
 use Rattle.warm_threads.proofs.plan.add_ask.Goals as goal
 
 pub returns-clause-adds : goal.returns-clause-adds

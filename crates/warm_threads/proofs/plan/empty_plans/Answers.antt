@@ -1,6 +1,6 @@
 use Rattle.std.proofs.Common.{arith}
 use Rattle.std.proofs.lemmas.Grind.{common_steps}
-use Rattle.warm_threads.proofs.Plannings.{plans_begin}
+use Rattle.warm_threads.proofs.PlanLemmas.{plans_begin}
 use Rattle.warm_threads.proofs.plan.empty_plans.Goals as goal
 
 pub loop-replica-preserved : goal.loop-replica-preserved

@@ -1,4 +1,4 @@
-use Rattle.warm_threads.proofs.Plannings.{jobs_of_plans}
+use Rattle.warm_threads.proofs.PlanLemmas.{jobs_of_plans}
 use Rattle.warm_threads.proofs.plan.jobs_in.Goals as goal
 
 pub returns-clause-jobs : goal.returns-clause-jobs

@@ -1,6 +1,6 @@
 use Rattle.std.proofs.Common.{◌++◌, ◌∷◌, [], append_assoc, ap, sym, ◌∙◌}
 use Rattle.warm_threads.specs.Plans.{DoesPlan}
-use Rattle.warm_threads.proofs.Numberings.{pairs_more}
+use Rattle.warm_threads.proofs.NumberLemmas.{pairs_more}
 use Rattle.warm_threads.proofs.plan.jobs_of.Goals as goal
 
 pub loop-plan-preserved : goal.loop-plan-preserved

@@ -1,7 +1,7 @@
 use Rattle.std.proofs.Common.{◌++◌, ◌∷◌, [], append_assoc, ap, sym, ◌∙◌}
 use Rattle.warm_replica.specs.Pairs.{Pairs}
 use Rattle.warm_threads.specs.Plans.{DoesPlan}
-use Rattle.warm_threads.proofs.Numberings.{pairs_more}
+use Rattle.warm_threads.proofs.NumberLemmas.{pairs_more}
 use Rattle.warm_threads.proofs.plan.jobs_of_all.Goals as goal
 
 pub loop-list-preserved : goal.loop-list-preserved

@@ -4,7 +4,7 @@ use Rattle.warm_player.proofs.Stream.{line_ends, line_last}
 use Rattle.warm_threads.specs.declared.ask.Ask.{Ask}
 use Rattle.warm_threads.specs.Asks.{asked, asks, bad_from, with_ask}
 use Rattle.warm_threads.specs.Plans.{ArePlansOf}
-use Rattle.warm_threads.proofs.Askings.{asks_then, good_here, line_fault, passed_on}
+use Rattle.warm_threads.proofs.AskLemmas.{asks_then, good_here, line_fault, passed_on}
 use Rattle.warm_threads.proofs.plan.plan_text.Goals as goal
 
 pub loop-line-preserved : goal.loop-line-preserved

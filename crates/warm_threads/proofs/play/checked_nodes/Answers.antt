@@ -1,6 +1,6 @@
 use Rattle.std.proofs.Common.{sym}
-use Rattle.warm_threads.proofs.Openings.{usable_as}
-use Rattle.warm_threads.proofs.Stoppings.{memory_refuses, usable_then}
+use Rattle.warm_threads.proofs.NodeLemmas.{usable_as}
+use Rattle.warm_threads.proofs.RefusalLemmas.{memory_refuses, usable_then}
 use Rattle.warm_threads.proofs.play.checked_nodes.Goals as goal
 
 pub returns-then-not-are_usable-clause-refused : goal.returns-then-not-are_usable-clause-refused

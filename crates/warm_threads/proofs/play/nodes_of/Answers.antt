@@ -1,4 +1,4 @@
-use Rattle.warm_threads.proofs.Openings.{nodes_count}
+use Rattle.warm_threads.proofs.NodeLemmas.{nodes_count}
 use Rattle.warm_threads.proofs.play.nodes_of.Goals as goal
 
 pub returns-clause-count : goal.returns-clause-count

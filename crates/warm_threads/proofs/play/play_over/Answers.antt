@@ -1,6 +1,6 @@
 use Rattle.std.proofs.Common.{◌≡◌, length, map, arith}
 use Rattle.std.proofs.lemmas.List.{length-map}
-use Rattle.warm_threads.proofs.Numberings.{triples_length}
+use Rattle.warm_threads.proofs.NumberLemmas.{triples_length}
 use Rattle.warm_threads.proofs.play.play_over.Goals as goal
 
 pub returns-clause-each : goal.returns-clause-each

@@ -4,9 +4,9 @@ use Rattle.warm_gossip.specs.State.{node_view}
 use Rattle.warm_world.specs.declared.play_fault.PlayFault.TheVariants.{BadLine, WriteFault}
 use Rattle.warm_player.specs.Answers.{Prints}
 use Rattle.warm_world.specs.Nodes.{nodes_over}
-use Rattle.warm_threads.specs.Shown.{replicas_text}
+use Rattle.warm_threads.specs.ReplicaTexts.{replicas_text}
 use Rattle.warm_world.specs.Views.{listed}
-use Rattle.warm_threads.proofs.Playings.{played_of}
+use Rattle.warm_threads.proofs.PlayLemmas.{played_of}
 use Rattle.warm_threads.proofs.play.play_threads.Goals as goal
 
 pub returns-clause-bad : goal.returns-clause-bad

@@ -1,6 +1,6 @@
 use Rattle.std.proofs.Common.{refl, arith}
-use Rattle.warm_random.proofs.Written.{Appends-none, Appends-then}
-use Rattle.warm_threads.proofs.Showings.{one_more_printed}
+use Rattle.warm_random.proofs.AppendLemmas.{Appends-none, Appends-then}
+use Rattle.warm_threads.proofs.ReplicaTextLemmas.{one_more_printed}
 use Rattle.warm_threads.proofs.play.print_replicas.Goals as goal
 
 pub loop-node-init : goal.loop-node-init

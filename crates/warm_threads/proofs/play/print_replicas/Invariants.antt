@@ -1,7 +1,7 @@
 use Rattle.std.proofs.Common.{◌≡◌, ◌+◌, map, take}
 use Rattle.std.specs.Io.KnownBytes.{Appends}
 use Rattle.warm_gossip.specs.State.{node_view}
-use Rattle.warm_threads.specs.Shown.{replicas_text}
+use Rattle.warm_threads.specs.ReplicaTexts.{replicas_text}
 use Rattle.warm_threads.proofs.play.print_replicas.Given as goal
 
 -- the replicas so far are printed

@@ -1,5 +1,5 @@
 use Rattle.std.proofs.Common.{◌≡◌, length, arith}
-use Rattle.warm_threads.proofs.Pairings.{pairs_by_place, values_if_ok}
+use Rattle.warm_threads.proofs.PairLemmas.{pairs_by_place, values_if_ok}
 use Rattle.warm_threads.proofs.runs.all_send.Goals as goal
 
 pub returns : goal.returns

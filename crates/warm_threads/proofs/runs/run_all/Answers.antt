@@ -1,7 +1,7 @@
 use Rattle.std.proofs.Common.{◌≤◌, length}
-use Rattle.warm_replica.specs.declared.fan.TheConstants.{MAX_JOBS}
-use Rattle.warm_threads.proofs.Pairings.{all_mapped, if_ok_then}
-use Rattle.warm_threads.proofs.Runnings.{went_all}
+use Rattle.warm_replica.specs.declared.job_threads.TheConstants.{MAX_JOBS}
+use Rattle.warm_threads.proofs.PairLemmas.{all_mapped, if_ok_then}
+use Rattle.warm_threads.proofs.RunLemmas.{went_all}
 use Rattle.warm_threads.proofs.runs.run_all.Goals as goal
 
 pub all_work-requires-clause-few : goal.all_work-requires-clause-few

@@ -3,7 +3,7 @@ use Rattle.std.specs.List.{All}
 use Rattle.warm_turn.specs.CallHistories.{IsLast}
 use Rattle.warm_replica.specs.Jobs.{JobsWent}
 use Rattle.warm_replica.specs.Replied.{AreTaken}
-use Rattle.warm_threads.proofs.Runnings.{jobs_work}
+use Rattle.warm_threads.proofs.RunLemmas.{jobs_work}
 use Rattle.warm_threads.proofs.work.work.Goals as goal
 
 pub returns : goal.returns

@@ -1,4 +1,4 @@
-use Rattle.warm_turn.proofs.Passes.{called_step}
+use Rattle.warm_turn.proofs.PassLemmas.{called_step}
 use Rattle.warm_turn.proofs.laws.visits_are_steps.Goals as goal
 
 pub returns : goal.returns

@@ -1,7 +1,7 @@
 use Rattle.std.proofs.Common.{◌≡◌, ◌≢◌}
 use mathlib.Core.Logic.{dite}
 use native.Mathlib.Decide.{ℕ_discrete}
-use Rattle.warm_turn.proofs.Sharing.{only_one}
+use Rattle.warm_turn.proofs.WeightLemmas.{only_one}
 use Rattle.warm_turn.proofs.laws.whole_is_alone.Goals as goal
 
 pub returns : goal.returns

@@ -1,6 +1,6 @@
 use Rattle.std.proofs.Common.{sym, subst}
 use Rattle.warm_turn.specs.CallHistories.{IsPass}
-use Rattle.warm_turn.proofs.Passes.{marked_is_pass}
+use Rattle.warm_turn.proofs.PassLemmas.{marked_is_pass}
 use Rattle.warm_turn.proofs.Seats.{called_from, took_unmarked, was_pass}
 use Rattle.warm_turn.proofs.turn.wait_and_visit.Goals as goal
 

@@ -3,7 +3,7 @@ use Rattle.std.specs.Vec.Iter.{into_iter_items}
 use Rattle.warm_world.specs.Lists.{Pairwise}
 use Rattle.warm_world.specs.Views.{listed, replica_view}
 use Rattle.warm_world.specs.States.{opened_over}
-use Rattle.warm_world.specs.Stands.{ReplicaStands}
+use Rattle.warm_world.specs.WorldStands.{ReplicaStands}
 use Rattle.warm_world.proofs.world.replicas_over.Given as goal
 
 -- a replica over each list so far, and capacity for one over each

@@ -1,5 +1,5 @@
 use Rattle.std.proofs.Common.{◌∙◌, refl, ap}
-use Rattle.warm_pool.proofs.Fills.{given_unsure}
+use Rattle.warm_pool.proofs.FillingLemmas.{given_unsure}
 use Rattle.test_node_memory.proofs.promised.filled.is_filled.Goals as goal
 
 pub pin_filled-requires-clause-given : goal.pin_filled-requires-clause-given

@@ -1,11 +1,11 @@
 -- `empty` is made of nothing.
-use Rattle.warm_c.proofs.Walking.{◌≡◌, List, [], ◌∷◌, ◌++◌, refl, sym, subst, Fn, Val, SProp, ent, emp, id⊢, ftrue, WpFn, fact, fact_i, tables, ‵}
-use Rattle.warm_c.proofs.Walking.{raw, ◌⊛◌, ◌$◌, ◌∵◌, !, qed, by, move, keep, use0, use1, split, fsplit, fjoin, fpack, feq_i, rewrite, suffices, agg}
-use Rattle.warm_c.proofs.Walking.{lit, no_more, and_then, returns, enter, alloc_all, pass_all, free_all, look_at, get, sets, Valss, owns, null_ptr}
-use Rattle.warm_c.proofs.Walking.{ptr_val, types_at, type_at, nothing, within, shape, to, alive, Stays, stay_dropped, walk_of, Goes-blank, proved_at}
-use Rattle.warm_c.proofs.Walking.{leaves, None}
+use Rattle.warm_c.proofs.WalkNames.{◌≡◌, List, [], ◌∷◌, ◌++◌, refl, sym, subst, Fn, Val, SProp, ent, emp, id⊢, ftrue, WpFn, fact, fact_i, tables, ‵}
+use Rattle.warm_c.proofs.WalkNames.{raw, ◌⊛◌, ◌$◌, ◌∵◌, !, qed, by, move, keep, use0, use1, split, fsplit, fjoin, fpack, feq_i, rewrite, suffices, agg}
+use Rattle.warm_c.proofs.WalkNames.{lit, no_more, and_then, returns, enter, alloc_all, pass_all, free_all, look_at, get, sets, Valss, owns, null_ptr}
+use Rattle.warm_c.proofs.WalkNames.{ptr_val, types_at, type_at, nothing, within, shape, to, alive, Stays, stay_dropped, walk_of, Goes-blank, proved_at}
+use Rattle.warm_c.proofs.WalkNames.{leaves, None}
 use Rattle.std.proofs.alloc.Global.TheLaws as heap_laws
-use Rattle.warm_c.proofs.Erased.{first, bits, word, typed, bits_typed}
+use Rattle.warm_c.proofs.PointerWordLemmas.{first, bits, word, typed, bits_typed}
 use Rattle.warm_c.specs.contracts.held_pointer.HeldPointer as pointer
 use Rattle.warm_c.specs.contracts.held_pointer.HeldPointer.empty.{ended, clauses, signature}
 use Rattle.warm_c.specs.contracts.held_pointer.HeldPointer.empty.Key.{name as #self}

@@ -1,10 +1,10 @@
 -- `of_raw_box` moves the fields: what is owned beside them stays.
-use Rattle.warm_c.proofs.Walking.{◌≡◌, List, [], ◌∷◌, ◌++◌, refl, sym, subst, Fn, Val, SProp, ent, emp, id⊢, ftrue, WpFn, fact, fact_i, tables, ‵}
-use Rattle.warm_c.proofs.Walking.{raw, ◌⊛◌, ◌$◌, ◌∵◌, !, qed, by, move, keep, use0, use1, split, fsplit, fjoin, rewrite, suffices, whole, sub, agg}
-use Rattle.warm_c.proofs.Walking.{stop, fld, of_opd, no_more, and_then, returns, enter, alloc_all, pass_all, free_all, look_at, get, get_in, sets}
-use Rattle.warm_c.proofs.Walking.{owns, types_at, type_at, nothing, alive, Stays, stay_dropped, walk_of, Goes-blank, Ptr-Good, proved_at, leaves}
-use Rattle.warm_c.proofs.Walking.{Some}
-use Rattle.warm_c.proofs.Erased.{first, word, word_of, typed, bits_typed}
+use Rattle.warm_c.proofs.WalkNames.{◌≡◌, List, [], ◌∷◌, ◌++◌, refl, sym, subst, Fn, Val, SProp, ent, emp, id⊢, ftrue, WpFn, fact, fact_i, tables, ‵}
+use Rattle.warm_c.proofs.WalkNames.{raw, ◌⊛◌, ◌$◌, ◌∵◌, !, qed, by, move, keep, use0, use1, split, fsplit, fjoin, rewrite, suffices, whole, sub, agg}
+use Rattle.warm_c.proofs.WalkNames.{stop, fld, of_opd, no_more, and_then, returns, enter, alloc_all, pass_all, free_all, look_at, get, get_in, sets}
+use Rattle.warm_c.proofs.WalkNames.{owns, types_at, type_at, nothing, alive, Stays, stay_dropped, walk_of, Goes-blank, Ptr-Good, proved_at, leaves}
+use Rattle.warm_c.proofs.WalkNames.{Some}
+use Rattle.warm_c.proofs.PointerWordLemmas.{first, word, word_of, typed, bits_typed}
 use Rattle.warm_c.specs.contracts.held_pointer.HeldPointer.of_raw_box.{ended, clauses, signature}
 use Rattle.warm_c.specs.contracts.held_pointer.HeldPointer.of_raw_box.Key.{name as #self}
 use Rattle.warm_c.proofs.held_pointer.HeldPointer.of_raw_box.Statement.{statement}

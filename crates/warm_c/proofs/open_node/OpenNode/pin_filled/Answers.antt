@@ -1,7 +1,7 @@
 use Rattle.std.proofs.Common.{◌≡◌, ◌∙◌, length, refl, ap}
 use Rattle.std.proofs.lemmas.Result.{err_from_is_err_and}
 use Rattle.warm_c.proofs.EngineRefusals.{filled_refused}
-use Rattle.warm_c.proofs.Fillings.{given_by_c}
+use Rattle.warm_c.proofs.FilledPinLemmas.{given_by_c}
 use Rattle.warm_c.proofs.open_node.OpenNode.pin_filled.Goals as goal
 
 pub pin_filled-requires-clause-given : goal.pin_filled-requires-clause-given

@@ -2,7 +2,7 @@ use Rattle.std.proofs.Common.{rules, ◌≡◌, ◌↔◌, length, Ok, IsTrue, i
 use Rattle.warm_frames.specs.Limits.{entries_in}
 use Rattle.warm_peer.specs.Since.{HasMoreSince}
 use Rattle.warm_c.specs.Since.{PutsSent, last_in, message_since}
-use Rattle.warm_c.proofs.Endings.{bool_same}
+use Rattle.warm_c.proofs.HandleLemmas.{bool_same}
 use Rattle.warm_c.proofs.open_node.OpenNode.send_since.Goals as goal
 
 pub returns : goal.returns

@@ -3,8 +3,8 @@ use Rattle.std.proofs.lemmas.List.{length-map}
 use Rattle.warm_history.specs.Histories.{references_of}
 use Rattle.warm_history.proofs.JoinLemmas.{history_of_own_references}
 use Rattle.warm_rank.specs.Ranking.{hottest_pages}
-use Rattle.warm_c.specs.Values.{c_page}
-use Rattle.warm_c.proofs.Lists.{few_listed}
+use Rattle.warm_c_base.specs.Values.{c_page}
+use Rattle.warm_c.proofs.ListLemmas.{few_listed}
 use Rattle.warm_c.proofs.open_peer.OpenPeer.list.Goals as goal
 
 pub put_pages-requires : goal.put_pages-requires

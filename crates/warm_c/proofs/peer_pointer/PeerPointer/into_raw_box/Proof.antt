@@ -1,10 +1,10 @@
 -- `into_raw_box` moves the fields: what is owned beside them stays.
-use Rattle.warm_c.proofs.Walking.{◌≡◌, List, [], ◌∷◌, ◌++◌, refl, sym, subst, Fn, Val, SProp, ent, emp, id⊢, WpFn, fact, fact_i, tables, ‵, raw, ◌⊛◌}
-use Rattle.warm_c.proofs.Walking.{◌$◌, ◌∵◌, !, qed, by, move, keep, use0, use1, split, fsplit, fjoin, rewrite, suffices, whole, sub, agg, stop, fld}
-use Rattle.warm_c.proofs.Walking.{of_opd, no_more, and_then, returns, enter, alloc_all, pass_all, free_all, look_at, get, get_in, sets, owns}
-use Rattle.warm_c.proofs.Walking.{types_at, type_at, nothing, heard, alive, Stays, stay_dropped, walk_of, Goes-blank, Ptr-Good, proved_at, leaves}
-use Rattle.warm_c.proofs.Walking.{Option, Some, IsSome}
-use Rattle.warm_c.proofs.Erased.{first, word, word_of, typed, bits_typed, opens}
+use Rattle.warm_c.proofs.WalkNames.{◌≡◌, List, [], ◌∷◌, ◌++◌, refl, sym, subst, Fn, Val, SProp, ent, emp, id⊢, WpFn, fact, fact_i, tables, ‵, raw, ◌⊛◌}
+use Rattle.warm_c.proofs.WalkNames.{◌$◌, ◌∵◌, !, qed, by, move, keep, use0, use1, split, fsplit, fjoin, rewrite, suffices, whole, sub, agg, stop, fld}
+use Rattle.warm_c.proofs.WalkNames.{of_opd, no_more, and_then, returns, enter, alloc_all, pass_all, free_all, look_at, get, get_in, sets, owns}
+use Rattle.warm_c.proofs.WalkNames.{types_at, type_at, nothing, heard, alive, Stays, stay_dropped, walk_of, Goes-blank, Ptr-Good, proved_at, leaves}
+use Rattle.warm_c.proofs.WalkNames.{Option, Some, IsSome}
+use Rattle.warm_c.proofs.PointerWordLemmas.{first, word, word_of, typed, bits_typed, opens}
 use Rattle.warm_c.specs.declared.open_peer.OpenPeer.{OpenPeer}
 use Rattle.warm_c.specs.contracts.peer_pointer.PeerPointer.into_raw_box.{ended, clauses, signature}
 use Rattle.warm_c.specs.contracts.peer_pointer.PeerPointer.into_raw_box.Key.{name as #self}

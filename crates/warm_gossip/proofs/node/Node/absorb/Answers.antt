@@ -1,6 +1,6 @@
 use Rattle.warm_pool.specs.View.{view_of}
-use Rattle.warm_gossip.proofs.Passed.{noted}
-use Rattle.warm_gossip.proofs.Ranks.{absorbed_agrees, absorbed_raises}
+use Rattle.warm_gossip.proofs.PassedLemmas.{noted}
+use Rattle.warm_gossip.proofs.RaisedLemmas.{absorbed_agrees, absorbed_raises}
 use Rattle.warm_gossip.proofs.node.Node.absorb.Goals as goal
 
 pub invariant_of-self-2 : goal.invariant_of-self-2

@@ -1,8 +1,8 @@
 use Rattle.std.proofs.Common.{subst, sym}
 use Rattle.warm_pool.specs.View.{view_of, Holds}
-use Rattle.warm_pool.proofs.Keeps.{held_some, held_there}
+use Rattle.warm_pool.proofs.PoolLemmas.{held_some, held_there}
 use Rattle.warm_gossip.specs.State.{NodeState}
-use Rattle.warm_gossip.proofs.Lents.{lent_keeps}
+use Rattle.warm_gossip.proofs.LendingLemmas.{lent_keeps}
 use Rattle.warm_gossip.proofs.node.Node.bytes_mut.Goals as goal
 
 pub invariant_of-self-lent : goal.invariant_of-self-lent

@@ -2,7 +2,7 @@ use Rattle.std.proofs.Common.{subst, sym, ◌∙◌}
 use Rattle.std.proofs.lemmas.Bool.{eqb-true}
 use Rattle.warm_history.specs.Histories.{IsHistory}
 use Rattle.warm_history.proofs.HistoryLemmas.{IsHistory-history}
-use Rattle.warm_gossip.proofs.Ranks.{kept_by_entries}
+use Rattle.warm_gossip.proofs.RaisedLemmas.{kept_by_entries}
 use Rattle.warm_gossip.proofs.node.Node.join.Goals as goal
 
 -- no entry changes

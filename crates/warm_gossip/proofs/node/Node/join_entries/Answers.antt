@@ -3,8 +3,8 @@ use Rattle.std.proofs.lemmas.Bool.{eqb-true}
 use Rattle.warm_history.specs.Histories.{IsHistory}
 use Rattle.warm_history.proofs.HistoryLemmas.{IsHistory-history}
 use Rattle.warm_pool.specs.View.{view_of}
-use Rattle.warm_gossip.proofs.Passed.{noted}
-use Rattle.warm_gossip.proofs.Ranks.{joined_agrees, joined_raises, kept_by_entries}
+use Rattle.warm_gossip.proofs.PassedLemmas.{noted}
+use Rattle.warm_gossip.proofs.RaisedLemmas.{joined_agrees, joined_raises, kept_by_entries}
 use Rattle.warm_gossip.proofs.node.Node.join_entries.Goals as goal
 
 -- no entry changes

@@ -1,5 +1,5 @@
 use Rattle.std.proofs.Common.{refl}
-use Rattle.warm_gossip.proofs.Passed.{pinned}
+use Rattle.warm_gossip.proofs.PassedLemmas.{pinned}
 use Rattle.warm_gossip.proofs.node.Node.pin.Goals as goal
 
 -- a resident page that can take one more pin

@@ -1,4 +1,4 @@
-use Rattle.warm_gossip.proofs.Passed.{pinned}
+use Rattle.warm_gossip.proofs.PassedLemmas.{pinned}
 use Rattle.warm_gossip.proofs.node.Node.pin_any.Goals as goal
 
 pub invariant_of-self-2 : goal.invariant_of-self-2

@@ -1,6 +1,6 @@
 use Rattle.std.proofs.Common.{subst}
 use Rattle.warm_history.specs.Histories.{IsHistory}
-use Rattle.warm_gossip.proofs.Passed.{filled}
+use Rattle.warm_gossip.proofs.PassedLemmas.{filled}
 use Rattle.std.proofs.lemmas.Result.{err_from_is_err_and}
 use Rattle.warm_gossip.proofs.node.Node.pin_filled.Goals as goal
 

@@ -4,8 +4,8 @@ use Rattle.warm_history.specs.Histories.{IsHistory}
 use Rattle.warm_history.proofs.HistoryLemmas.{IsHistory-history}
 use Rattle.warm_history.proofs.JoinLemmas.{raised_to_no_later}
 use Rattle.warm_pool.specs.View.{view_of}
-use Rattle.warm_gossip.proofs.Ranks.{kept_by_entries}
-use Rattle.warm_gossip.proofs.Warmings.{same_node}
+use Rattle.warm_gossip.proofs.RaisedLemmas.{kept_by_entries}
+use Rattle.warm_gossip.proofs.NextWarmLemmas.{same_node}
 use Rattle.warm_gossip.proofs.node.Node.raise.Goals as goal
 
 -- a time that is not past the horizon changes nothing

@@ -1,5 +1,5 @@
 use Rattle.warm_pool.specs.View.{view_of}
-use Rattle.warm_gossip.proofs.WarmUpKept.{not_retired, retired_count, warms_again}
+use Rattle.warm_gossip.proofs.WarmingLemmas.{not_retired, retired_count, warms_again}
 use Rattle.warm_gossip.proofs.node.Node.replace.Goals as goal
 
 -- a refusal leaves the passed pages passed

@@ -2,8 +2,8 @@ use Rattle.std.proofs.Common.{◌<◌, [], length, subst, arith}
 use Rattle.warm_history.specs.Histories.{HistoryView, IsHistory}
 use Rattle.warm_pool.specs.View.{view_of}
 use Rattle.warm_gossip.specs.WarmingUp.{IsListed, IsWarming}
-use Rattle.warm_gossip.proofs.Passed.{listed_at}
-use Rattle.warm_gossip.proofs.Warmings.{none_to_load, page_to_load}
+use Rattle.warm_gossip.proofs.PassedLemmas.{listed_at}
+use Rattle.warm_gossip.proofs.NextWarmLemmas.{none_to_load, page_to_load}
 use Rattle.warm_gossip.proofs.node.Node.warm_next.Goals as goal
 
 pub returns-then-at-len-clause-next : goal.returns-then-at-len-clause-next

@@ -7,9 +7,9 @@ use Rattle.warm_rank.specs.Keys.{ranked_page}
 use Rattle.warm_gossip.specs.Step.{IsLoadable, nth_page}
 use Rattle.warm_gossip.specs.declared.warm_step.WarmUp.{WarmUp}
 use Rattle.warm_gossip.specs.WarmingUp.{IsListed, IsWarming, PassedAtLoad}
-use Rattle.warm_gossip.proofs.Passed.{listed_at, loaded}
-use Rattle.warm_gossip.proofs.WarmUpKept.{warms_on}
-use Rattle.warm_gossip.proofs.Warmings.{loaded_in, load_refused_in, none_to_load, page_to_load}
+use Rattle.warm_gossip.proofs.PassedLemmas.{listed_at, loaded}
+use Rattle.warm_gossip.proofs.WarmingLemmas.{warms_on}
+use Rattle.warm_gossip.proofs.NextWarmLemmas.{loaded_in, load_refused_in, none_to_load, page_to_load}
 use Rattle.warm_gossip.proofs.node.Node.warm_step.Goals as goal
 
 pub returns-then-at-len-clause-step : goal.returns-then-at-len-clause-step

@@ -2,7 +2,7 @@ use Rattle.std.proofs.Common.{ap, refl, ◌∙◌}
 use Rattle.std.proofs.lemmas.Result.{err_from_is_err_and}
 use Rattle.warm_pool.specs.View.{view_of}
 use Rattle.warm_gossip.specs.declared.fault.NodeFault.TheVariants.{Pool}
-use Rattle.warm_gossip.proofs.WarmUpKept.{warms_failed}
+use Rattle.warm_gossip.proofs.WarmingLemmas.{warms_failed}
 use Rattle.warm_gossip.proofs.node.Node.write_back.Goals as goal
 
 pub returns-in_err-write_back_all-clause-refused : goal.returns-in_err-write_back_all-clause-refused

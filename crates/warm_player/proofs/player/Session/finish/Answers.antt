@@ -1,5 +1,5 @@
 use Rattle.std.proofs.Common.{◌++◌}
-use Rattle.warm_random.proofs.Written.{Appends-then}
+use Rattle.warm_random.proofs.AppendLemmas.{Appends-then}
 use Rattle.warm_player.proofs.Stream.{Appends-kept, Ends-answer}
 use Rattle.warm_player.proofs.player.Session.finish.Goals as goal
 

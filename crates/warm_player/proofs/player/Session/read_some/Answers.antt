@@ -1,6 +1,6 @@
 use Rattle.std.proofs.Common.{[]}
 use Rattle.std.specs.Io.KnownBytes.{Consumes}
-use Rattle.warm_random.proofs.Written.{Appends-none}
+use Rattle.warm_random.proofs.AppendLemmas.{Appends-none}
 use Rattle.warm_player.proofs.Stream.{Consumes-kept, Goes-none}
 use Rattle.warm_player.proofs.player.Session.read_some.Goals as goal
 

@@ -1,4 +1,4 @@
-use Rattle.warm_pool.proofs.Keeps.{seen_holds}
+use Rattle.warm_pool.proofs.PoolLemmas.{seen_holds}
 use Rattle.warm_pool.proofs.Writes.{lent_seen}
 use Rattle.warm_pool.proofs.pool.Pool.bytes.Goals as goal
 

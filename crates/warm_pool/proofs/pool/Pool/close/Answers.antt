@@ -1,4 +1,4 @@
-use Rattle.warm_pool.proofs.HandedBack.{none_waits}
+use Rattle.warm_pool.proofs.HandingBackLemmas.{none_waits}
 use Rattle.warm_pool.proofs.pool.Pool.close.Goals as goal
 
 pub let_all_go-requires : goal.let_all_go-requires

@@ -1,6 +1,6 @@
 use Rattle.std.proofs.Common.{ap, ◌∙◌}
+use Rattle.warm_frame_table.specs.Frames.{dirty_count}
 use Rattle.warm_pool.specs.State.{PoolState}
-use Rattle.warm_pool.specs.WritingSome.{dirty_count}
 use Rattle.warm_pool.proofs.pool.Pool.dirty.Goals as goal
 
 pub returns : goal.returns

@@ -1,7 +1,7 @@
+use Rattle.warm_frame_table.specs.declared.selection.Devices.TheVariants.{All}
 use Rattle.warm_pool.specs.State.{IsPool, IsSettled, PoolState}
 use Rattle.warm_pool.proofs.SettleLemmas.{seen_down, seen_settled}
 use Rattle.warm_pool.proofs.EmptyLemmas.{unfixed_to, vacated_pool, empty_ranked, emptied_pool, empty_settled, becomes_empty}
-use Rattle.warm_pool.specs.declared.selection.Devices.TheVariants.{All}
 use Rattle.warm_pool.specs.Calls.{FlushesOnce}
 use Rattle.warm_pool.proofs.FlushLemmas.{handed_on}
 use Rattle.std.proofs.Common.{subst, sym}

@@ -1,13 +1,13 @@
 use Rattle.std.proofs.Common.{◌≡◌, ◌<◌, length, refl, sym, subst, ◌∙◌, arith, ap, inr}
 use Rattle.std.proofs.lemmas.List.{length-set}
-use Rattle.warm_pool.specs.Frames.{nth_frame}
+use Rattle.warm_frame_table.specs.Frames.{nth_frame}
 use Rattle.warm_pool.specs.View.{view_of}
 use Rattle.warm_pool.specs.Pinning.{PutsIn}
 use Rattle.warm_pool.proofs.PoolSteps.{pool_seen, has_device, has_number, seen_generation}
 use Rattle.warm_pool.proofs.Pins.{failed_ranked, loaded_ranked, loaded_puts, loaded_slot, puts_holds}
 use Rattle.warm_pool.proofs.FlushLemmas.{handed_on}
-use Rattle.warm_pool.proofs.Zeroes.{zero_failed}
-use Rattle.warm_pool.proofs.Fills.{filled_takes}
+use Rattle.warm_pool.proofs.ZeroingLemmas.{zero_failed}
+use Rattle.warm_pool.proofs.FillingLemmas.{filled_takes}
 use Rattle.warm_pool.specs.declared.fault.PoolFault.TheVariants.{FixesFull, ReadFault}
 use Rattle.warm_pool.specs.declared.slot.Placed.{Placed}
 use Rattle.warm_pool.proofs.PlacedLemmas.{placed_loaded}

@@ -1,6 +1,6 @@
 use Rattle.std.proofs.Common.{◌≤◌, replicate, ap, sym, subst, ◌∙◌}
 use Rattle.warm_devices.specs.declared.TheConstants.{MAX_PAGE_SIZE}
-use Rattle.warm_pool.proofs.Zeroes.{zeros_whole, zeros_fixed, written_holds}
+use Rattle.warm_pool.proofs.ZeroingLemmas.{zeros_whole, zeros_fixed, written_holds}
 use Rattle.warm_pool.proofs.pool.Pool.fix_zeroed.Goals as goal
 
 pub clear-requires : goal.clear-requires

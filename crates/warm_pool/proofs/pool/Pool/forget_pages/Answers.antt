@@ -1,7 +1,7 @@
 use Rattle.std.proofs.Common.{[], refl, arith}
 use Rattle.std.proofs.lemmas.List.{length-map}
+use Rattle.warm_frame_table.specs.declared.selection.Devices.TheVariants.{PagesFrom}
 use Rattle.warm_pool.proofs.ForgetLemmas.{forget_pool, forget_ranked, pool_forgets, fixed_from}
-use Rattle.warm_pool.specs.declared.selection.Devices.TheVariants.{PagesFrom}
 use Rattle.warm_pool.proofs.pool.Pool.forget_pages.Goals as goal
 
 pub invariant_of-self : goal.invariant_of-self

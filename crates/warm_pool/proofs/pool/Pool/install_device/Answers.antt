@@ -1,10 +1,10 @@
 use Rattle.std.proofs.Common.{◌≡◌, ◌<◌, length, sym, subst}
+use Rattle.warm_frame_table.specs.declared.selection.Devices.TheVariants.{One}
 use Rattle.warm_pool.specs.HandingBack.{HandsBackOne}
 use Rattle.warm_pool.specs.steps.Retiring.{AreUnfixed}
 use Rattle.warm_pool.specs.State.{IsPool, nth_device}
-use Rattle.warm_pool.proofs.HandedBack.{handed_here}
+use Rattle.warm_pool.proofs.HandingBackLemmas.{handed_here}
 use Rattle.warm_pool.proofs.RetireLemmas.{took_in}
-use Rattle.warm_pool.specs.declared.selection.Devices.TheVariants.{One}
 use Rattle.warm_pool.proofs.pool.Pool.install_device.Goals as goal
 
 pub invariant_of-self : goal.invariant_of-self

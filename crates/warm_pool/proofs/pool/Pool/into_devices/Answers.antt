@@ -1,5 +1,5 @@
 use Rattle.warm_pool.proofs.EmptyLemmas.{unfixed_frames}
-use Rattle.warm_pool.proofs.HandedBack.{hands_back}
+use Rattle.warm_pool.proofs.HandingBackLemmas.{hands_back}
 use Rattle.warm_pool.proofs.pool.Pool.into_devices.Goals as goal
 
 pub returns-in-Ok-clause-done : goal.returns-in-Ok-clause-done

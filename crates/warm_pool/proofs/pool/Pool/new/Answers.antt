@@ -1,6 +1,6 @@
 use Rattle.std.proofs.Common.{◌≤◌, [], length, sym, subst}
 use Rattle.std.proofs.lemmas.List.{length-map}
-use Rattle.warm_pool.proofs.Opens.{opened_state, opened_pool, opened_ranked}
+use Rattle.warm_pool.proofs.OpeningLemmas.{opened_state, opened_pool, opened_ranked}
 use Rattle.warm_pool.proofs.pool.Pool.new.Goals as goal
 
 pub invariant_of-result : goal.invariant_of-result

@@ -1,11 +1,11 @@
 use Rattle.std.proofs.Common.{◌∙◌, length, arith, ap, refl, rules, sym, subst}
 use Rattle.std.proofs.lemmas.List.{length-map}
+use Rattle.warm_frame_table.specs.declared.selection.Devices.TheVariants.{One}
 use Rattle.warm_pool.specs.steps.Retiring.{AreUnfixed}
 use Rattle.warm_pool.proofs.FlushLemmas.{handed_on}
 use Rattle.warm_pool.proofs.PoolSteps.{of_err}
 use Rattle.warm_pool.proofs.RetireLemmas.{fixed_on, may_retire}
 use Rattle.warm_pool.specs.declared.fault.PoolFault.TheVariants.{Fault}
-use Rattle.warm_pool.specs.declared.selection.Devices.TheVariants.{One}
 use Rattle.warm_pool.proofs.pool.Pool.prepare_retire.Goals as goal
 
 pub returns-in_err-map_err-clause-refused : goal.returns-in_err-map_err-clause-refused

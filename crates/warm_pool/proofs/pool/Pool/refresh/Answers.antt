@@ -1,4 +1,4 @@
-use Rattle.warm_pool.proofs.Renewals.{none_renewed, named_renewed, all_named, each_named}
+use Rattle.warm_pool.proofs.RefreshingLemmas.{none_renewed, named_renewed, all_named, each_named}
 use Rattle.warm_pool.proofs.pool.Pool.refresh.Goals as goal
 
 pub loop-item-init : goal.loop-item-init

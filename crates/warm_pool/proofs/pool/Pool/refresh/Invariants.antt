@@ -1,5 +1,5 @@
 use Rattle.std.proofs.Common.{map}
-use Rattle.warm_pool.proofs.Renewals.{Renewed}
+use Rattle.warm_pool.proofs.RefreshingLemmas.{Renewed}
 use Rattle.warm_pool.proofs.pool.Pool.refresh.Given as goal
 
 -- the ranks of the pages named so far were renewed

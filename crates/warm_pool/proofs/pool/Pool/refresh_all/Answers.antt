@@ -1,5 +1,5 @@
 use Rattle.std.proofs.Common.{length, ap, arith}
-use Rattle.warm_pool.proofs.Renewals.{none_first, next_first, all_first}
+use Rattle.warm_pool.proofs.RefreshingLemmas.{none_first, next_first, all_first}
 use Rattle.warm_pool.proofs.pool.Pool.refresh_all.Goals as goal
 
 pub loop-at-init : goal.loop-at-init

@@ -1,4 +1,4 @@
-use Rattle.warm_pool.proofs.Renewals.{RenewedFirst}
+use Rattle.warm_pool.proofs.RefreshingLemmas.{RenewedFirst}
 use Rattle.warm_pool.proofs.pool.Pool.refresh_all.Given as goal
 
 -- the ranks of the pages of the frames so far were renewed

@@ -1,7 +1,7 @@
 use Rattle.std.proofs.Common.{sym, ◌∙◌}
-use Rattle.warm_pool.proofs.HandedBack.{handed_down}
+use Rattle.warm_frame_table.specs.declared.selection.Devices.TheVariants.{One}
+use Rattle.warm_pool.proofs.HandingBackLemmas.{handed_down}
 use Rattle.warm_pool.proofs.RetireLemmas.{way_clean, way_unfixed, retire_view, retire_ranked, elsewhere_retired, others_retired}
-use Rattle.warm_pool.specs.declared.selection.Devices.TheVariants.{One}
 use Rattle.warm_pool.proofs.pool.Pool.replace.Goals as goal
 
 pub install_device-requires-clause-clean : goal.install_device-requires-clause-clean

@@ -1,6 +1,6 @@
 use Rattle.std.proofs.Common.{◌∙◌, ap, length, sym}
 use Rattle.warm_rank.specs.Laws.{pages_in}
-use Rattle.warm_pool.proofs.frame_table.CountLemmas.{seen_held}
+use Rattle.warm_pool.proofs.ResidentLemmas.{seen_held}
 use Rattle.warm_pool.proofs.pool.Pool.resident_count.Goals as goal
 
 pub returns : goal.returns

@@ -1,9 +1,9 @@
 use Rattle.std.proofs.Common.{refl, sym, subst, arith}
 use Rattle.std.proofs.lemmas.List.{length-map}
+use Rattle.warm_frame_table.specs.declared.selection.Devices.TheVariants.{All}
 use Rattle.warm_pool.proofs.FlushLemmas.{on_err}
 use Rattle.warm_pool.proofs.SettleLemmas.{ranked_to, seen_down, flush_down, flushed_alike, flushed_failures, flushed_quiet, stopped_alike, flush_stops_at, alike_kept}
-use Rattle.warm_pool.proofs.Keeps.{devices_keep_pool}
-use Rattle.warm_pool.specs.declared.selection.Devices.TheVariants.{All}
+use Rattle.warm_pool.proofs.PoolLemmas.{devices_keep_pool}
 use Rattle.warm_pool.specs.State.{PoolState}
 use Rattle.warm_pool.specs.Calls.{FlushesNone}
 use Rattle.warm_pool.proofs.CallLemmas.{stopped_once, all_once}

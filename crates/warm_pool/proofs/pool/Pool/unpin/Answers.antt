@@ -1,6 +1,6 @@
 use Rattle.std.proofs.Common.{◌∙◌, refl}
-use Rattle.warm_pool.proofs.Keeps.{step_pool, step_ranked, step_view, seen_holds, held_there, held_fixed, held_some, alike_fixes, seen_unpinned}
-use Rattle.warm_pool.proofs.KeepingLemmas.{step_kept}
+use Rattle.warm_pool.proofs.PoolLemmas.{step_pool, step_ranked, step_view, seen_holds, held_there, held_fixed, held_some, alike_fixes, seen_unpinned}
+use Rattle.warm_pool.proofs.UnchangedLemmas.{step_kept}
 use Rattle.warm_pool.proofs.pool.Pool.unpin.Goals as goal
 
 pub unfix-requires-clause-there : goal.unfix-requires-clause-there

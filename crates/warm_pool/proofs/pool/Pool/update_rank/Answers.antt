@@ -1,5 +1,5 @@
 use Rattle.warm_pool.proofs.PoolSteps.{found_there, found_holds, found_nowhere}
-use Rattle.warm_pool.proofs.Renewals.{renewed_pool, renewed_view, renews, renews_none}
+use Rattle.warm_pool.proofs.RefreshingLemmas.{renewed_pool, renewed_view, renews, renews_none}
 use Rattle.warm_pool.proofs.pool.Pool.update_rank.Goals as goal
 
 pub rank-requires : goal.rank-requires

@@ -1,10 +1,10 @@
 use Rattle.std.proofs.Common.{rules, subst}
+use Rattle.warm_frame_table.specs.declared.selection.Devices.TheVariants.{All}
 use Rattle.warm_pool.specs.steps.Retiring.{AreUnfixed}
 use Rattle.warm_pool.proofs.EmptyLemmas.{unfixed_frames}
 use Rattle.warm_pool.proofs.FlushLemmas.{handed_on}
 use Rattle.warm_pool.proofs.PoolSteps.{of_err}
 use Rattle.warm_pool.specs.declared.fault.PoolFault.TheVariants.{Fault}
-use Rattle.warm_pool.specs.declared.selection.Devices.TheVariants.{All}
 use Rattle.warm_pool.proofs.pool.Pool.write_back_unpinned.Goals as goal
 
 pub returns-in_err-map_err-clause-refused : goal.returns-in_err-map_err-clause-refused

@@ -1,12 +1,12 @@
 use Rattle.std.proofs.Common.{◌≡◌, ◌<◌, length, refl, sym, subst, ◌∙◌, arith, ap, inr}
 use Rattle.std.proofs.lemmas.List.{length-set}
-use Rattle.warm_pool.specs.Frames.{nth_frame}
+use Rattle.warm_frame_table.specs.Frames.{nth_frame}
 use Rattle.warm_pool.specs.View.{view_of}
 use Rattle.warm_pool.specs.Zeroing.{PutsZeros}
 use Rattle.warm_pool.proofs.PoolSteps.{pool_seen, has_device, has_number, seen_generation}
 use Rattle.warm_pool.proofs.Pins.{failed_ranked}
 use Rattle.warm_pool.proofs.FlushLemmas.{handed_on}
-use Rattle.warm_pool.proofs.Zeroes.{zero_failed, zeroed_ranked, zeroed_slot, zeroed_puts, zeroed_takes, zeroed_holds}
+use Rattle.warm_pool.proofs.ZeroingLemmas.{zero_failed, zeroed_ranked, zeroed_slot, zeroed_puts, zeroed_takes, zeroed_holds}
 use Rattle.warm_pool.specs.declared.fault.PoolFault.TheVariants.{FixesFull, ReadFault}
 use Rattle.warm_pool.proofs.OutcomeLemmas.{unput_unread_fails, victim_fails}
 use Rattle.warm_pool.proofs.pool.Pool.zero_at.Goals as goal

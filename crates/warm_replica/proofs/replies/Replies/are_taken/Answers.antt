@@ -3,7 +3,7 @@ use Rattle.std.specs.List.{All}
 use Rattle.warm_replica.specs.declared.job.StepReply.{StepReply}
 use Rattle.warm_replica.specs.declared.replies.Run.{Run}
 use Rattle.warm_replica.specs.Replied.{IsTaken, Replied}
-use Rattle.warm_replica.proofs.Counted.{taken_if, taken_only_if}
+use Rattle.warm_replica.proofs.ReplyLemmas.{taken_if, taken_only_if}
 use Rattle.warm_replica.proofs.replies.Replies.are_taken.Goals as goal
 
 pub returns : goal.returns

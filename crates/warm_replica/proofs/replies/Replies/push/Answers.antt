@@ -1,7 +1,7 @@
 use Rattle.std.proofs.Common.{◌∙◌, ap, length, [], ◌∷◌, ◌++◌, arith}
 use Rattle.std.proofs.lemmas.List.{length-append}
 use Rattle.warm_replica.specs.Replied.{Replied, replies_of}
-use Rattle.warm_replica.proofs.Counted.{reply_more, replies_long}
+use Rattle.warm_replica.proofs.ReplyLemmas.{reply_more, replies_long}
 use Rattle.warm_replica.proofs.replies.Replies.push.Goals as goal
 
 pub push_reserved-requires : goal.push_reserved-requires

@@ -1,5 +1,5 @@
 use Rattle.std.proofs.Common.{rules}
-use Rattle.warm_replica.proofs.Refusals.{not_taken}
+use Rattle.warm_replica.proofs.BatchLemmas.{not_taken}
 use Rattle.warm_replica.proofs.worker.Worker.flush.Goals as goal
 
 pub returns : goal.returns

@@ -1,4 +1,4 @@
-use Rattle.warm_shards.proofs.Passing.{forgotten_shards}
+use Rattle.warm_shards.proofs.EachShardLemmas.{forgotten_shards}
 use Rattle.warm_shards.proofs.shards.Shards.forget_pages.Goals as goal
 
 pub invariant_of-self : goal.invariant_of-self

@@ -1,6 +1,6 @@
 use Rattle.std.proofs.Common.{arith, rules}
-use Rattle.warm_shards.specs.Forming.{CanBeShards}
-use Rattle.warm_shards.proofs.Formed.{formed_shards, risen_each, risen_whole}
+use Rattle.warm_shards.specs.ShardsOfNodes.{CanBeShards}
+use Rattle.warm_shards.proofs.ShardsOfNodesLemmas.{formed_shards, risen_each, risen_whole}
 use Rattle.warm_shards.proofs.shards.Shards.from_nodes.Goals as goal
 
 pub invariant_of-result : goal.invariant_of-result
@@ -20,4 +20,5 @@ pub returns-clause-whole : goal.returns-clause-whole
 returns-clause-whole g c =
     let old = c.args.nodes.items in
     let new = c.raise_first.new.nodes.items in
-    risen_whole old new (risen_each old new c.latest_horizon-horizon.result c.len-count.result c.latest_horizon-horizon.ensures (omega (arith, c.len-count.ensures)) c.raise_first.ensures)
+    let can : CanBeShards c.args.id old = search rules in
+    risen_whole old new can.count (risen_each old new c.latest_horizon-horizon.result c.len-count.result c.latest_horizon-horizon.ensures (omega (arith, c.len-count.ensures)) c.raise_first.ensures)

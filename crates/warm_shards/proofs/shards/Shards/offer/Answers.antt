@@ -6,7 +6,7 @@ use Rattle.warm_gossip.specs.declared.call.Call.TheVariants.{Offer}
 use Rattle.warm_gossip.specs.declared.call.Reply.TheVariants.{Refused, Sent}
 use Rattle.warm_gossip.specs.declared.fault.NodeFault.TheVariants.{Memory}
 use Rattle.warm_shards.specs.Clauses.{Together}
-use Rattle.warm_shards.proofs.Answering.{offer_kept, offered, request_horizon, request_id}
+use Rattle.warm_shards.proofs.AnswerLemmas.{offer_kept, offered, request_horizon, request_id}
 use Rattle.warm_shards.proofs.shards.Shards.offer.Goals as goal
 
 pub returns-clause-step : goal.returns-clause-step

@@ -1,10 +1,9 @@
 use Rattle.std.proofs.Common.{List, subst}
 use Rattle.warm_gossip.specs.State.{NodeState}
-use Rattle.warm_gossip.specs.declared.call.Call.TheVariants.{Horizon}
-use Rattle.warm_gossip.specs.declared.call.Reply.TheVariants.{Kept}
-use Rattle.warm_shards.specs.Clauses.{Together}
+use Rattle.warm_shards.specs.Given.{AreGiven, at_horizon}
 use Rattle.warm_shards.proofs.shards.Shards.raise.Goals as goal
 
-pub returns-clause-step : goal.returns-clause-step
-returns-clause-step g c =
-    subst (λ (xs : List NodeState). Together xs (Horizon c.args.time) (Kept c.raise_all.result) c.raise_all.new.nodes.items) c.self.view_is c.raise_all.ensures.step
+pub returns : goal.returns
+returns g c =
+    let all = subst (λ (xs : List NodeState). AreGiven (at_horizon c.args.time) xs c.raise_all.new.nodes.items) c.self.view_is c.raise_all.ensures.given in
+    record { step = λ pool. (all.given pool, c.raise_all.ensures.kept); pools = all.pools }

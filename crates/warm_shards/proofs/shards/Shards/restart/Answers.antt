@@ -1,4 +1,4 @@
-use Rattle.warm_shards.proofs.Passing.{restarted_empty, restarted_shards}
+use Rattle.warm_shards.proofs.EachShardLemmas.{restarted_empty, restarted_shards}
 use Rattle.warm_shards.proofs.shards.Shards.restart.Goals as goal
 
 pub invariant_of-self : goal.invariant_of-self

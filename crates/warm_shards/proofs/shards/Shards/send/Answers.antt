@@ -3,8 +3,8 @@ use Rattle.warm_gossip.specs.State.{NodeState}
 use Rattle.warm_gossip.specs.declared.call.Call.TheVariants.{Send}
 use Rattle.warm_gossip.specs.declared.call.Reply.TheVariants.{Sent}
 use Rattle.warm_shards.specs.Clauses.{TogetherAnswered}
-use Rattle.warm_shards.proofs.Absorbing.{some_shards}
-use Rattle.warm_shards.proofs.Answering.{sends}
+use Rattle.warm_shards.proofs.AreShardsLemmas.{some_shards}
+use Rattle.warm_shards.proofs.AnswerLemmas.{sends}
 use Rattle.warm_shards.proofs.Calls.{read_at}
 use Rattle.warm_shards.proofs.shards.Shards.send.Goals as goal
 

@@ -1,7 +1,7 @@
 use Rattle.std.proofs.Common.{◌≡◌, ℕ, ◌<◌, ◌%◌, List, length, sym, ap, subst, ◌∙◌, arith}
 use Rattle.warm_gossip.specs.State.{NodeState}
-use Rattle.warm_shards.proofs.Answering.{SentPortionIs, sends_since}
-use Rattle.warm_shards.proofs.Absorbing.{some_shards}
+use Rattle.warm_shards.proofs.AnswerLemmas.{SentPortionIs, sends_since}
+use Rattle.warm_shards.proofs.AreShardsLemmas.{some_shards}
 use Rattle.warm_shards.proofs.Calls.{read_at}
 use Rattle.warm_shards.proofs.shards.Shards.send_since.Goals as goal
 

@@ -1,4 +1,4 @@
-use Rattle.warm_shards.proofs.Passing.{settled_shards}
+use Rattle.warm_shards.proofs.EachShardLemmas.{settled_shards}
 use Rattle.warm_shards.proofs.shards.Shards.write_back_all.Goals as goal
 
 pub invariant_of-self : goal.invariant_of-self

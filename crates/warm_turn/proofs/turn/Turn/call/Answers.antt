@@ -1,5 +1,5 @@
 use Rattle.std.proofs.Common.{ap}
-use Rattle.warm_turn.proofs.Passes.{called_step, visit_is_call}
+use Rattle.warm_turn.proofs.PassLemmas.{called_step, visit_is_call}
 use Rattle.warm_turn.proofs.turn.Turn.call.Goals as goal
 
 pub returns-in-Ok-clause-called : goal.returns-in-Ok-clause-called

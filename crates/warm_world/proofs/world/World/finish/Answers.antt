@@ -1,5 +1,5 @@
 use Rattle.warm_world.specs.Opening.{StopsInOrder}
-use Rattle.warm_world.specs.Stands.{CountsFailure}
+use Rattle.warm_world.specs.WorldStands.{CountsFailure}
 use Rattle.warm_world.specs.Views.{world_view}
 use Rattle.warm_world.proofs.Endings.{fails_since, fails_stand, stops_in_order}
 use Rattle.warm_world.proofs.Replicas.{passed_on}

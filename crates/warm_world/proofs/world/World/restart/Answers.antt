@@ -2,7 +2,7 @@ use Rattle.std.proofs.Common.{◌-◌, refl, subst}
 use Rattle.std.proofs.lemmas.Result.{err_from_is_err_and}
 use Rattle.warm_pool.specs.Retiring.{Emptied}
 use Rattle.warm_gossip.specs.State.{NodeView}
-use Rattle.warm_gossip.proofs.Given.{refused_keeps}
+use Rattle.warm_gossip.proofs.GivenLemmas.{refused_keeps}
 use Rattle.warm_gossip.specs.declared.call.Call.TheVariants as call
 use Rattle.warm_gossip.specs.declared.call.Reply.TheVariants as reply
 use Rattle.warm_world.specs.declared.event.Event.TheVariants.{Restart}

@@ -2,7 +2,7 @@ use Rattle.std.proofs.Common.{◌≡◌, ◌≤◌, ◌++◌, length, vec_capaci
 use Rattle.std.specs.Vec.Iter.{into_iter_items}
 use Rattle.warm_world.specs.Views.{world_view}
 use Rattle.warm_world.specs.States.{ModelState}
-use Rattle.warm_world.specs.Stands.{WorldStands, Ran}
+use Rattle.warm_world.specs.WorldStands.{WorldStands, Ran}
 use Rattle.warm_world.proofs.world.World.run.Given as goal
 
 -- the events so far led to what the world stands for, and there is capacity for all the answers

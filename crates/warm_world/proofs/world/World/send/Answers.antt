@@ -5,7 +5,7 @@ use Rattle.warm_frames.specs.declared.layout.TheConstants.{MAX_ENTRIES}
 use Rattle.warm_world.specs.declared.event.Event.TheVariants.{Send}
 use Rattle.warm_world.specs.Replicas.{answered}
 use Rattle.warm_world.specs.States.{References, reach_of}
-use Rattle.warm_world.proofs.Alone.{send_refused}
+use Rattle.warm_world.proofs.PoolCallLemmas.{send_refused}
 use Rattle.warm_world.proofs.Messages.{kept_one}
 use Rattle.warm_world.proofs.Histories.{sent_kept}
 use Rattle.warm_world.proofs.Worlds.{named_too, no_memory_still, node_at}

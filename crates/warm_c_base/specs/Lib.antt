@@ -1,0 +1,5 @@
+pub mod Counters
+pub mod DeviceLists
+pub mod FdParts
+pub mod Statuses
+pub mod Values

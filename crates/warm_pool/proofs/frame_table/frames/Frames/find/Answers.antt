@@ -1,7 +1,0 @@
-use Rattle.std.proofs.Common.{subst}
-use Rattle.warm_pool.specs.frame_table.PageTable.{IsPlaceOf}
-use Rattle.warm_pool.proofs.frame_table.FrameParts.{seen_pages}
-use Rattle.warm_pool.proofs.frame_table.frames.Frames.find.Goals as goal
-
-pub returns : goal.returns
-returns c = subst (λ pages. IsPlaceOf pages c.args.page c.find.result) (seen_pages c.self.invariant c.self.view_is) c.find.ensures

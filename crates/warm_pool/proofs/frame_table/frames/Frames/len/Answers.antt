@@ -1,6 +1,0 @@
-use Rattle.std.proofs.Common.{◌∙◌}
-use Rattle.warm_pool.proofs.frame_table.FrameParts.{seen_count}
-use Rattle.warm_pool.proofs.frame_table.frames.Frames.len.Goals as goal
-
-pub returns : goal.returns
-returns c = c.len.ensures ∙ c.self.inside.frames.ok.0 ∙ seen_count c.self.invariant c.self.view_is

@@ -1,6 +1,0 @@
-use Rattle.std.proofs.Common.{◌≡◌, replicate}
-use Rattle.warm_pool.specs.frame_table.FrameSteps.{fresh_body}
-use Rattle.warm_pool.proofs.frame_table.frames.fresh_frames.Given as goal
-
-abbrev pub invariant-loop : goal.invariant-loop
-invariant-loop l = l.made.items ≡ replicate l.counter (fresh_body (replicate l.page_size 0))

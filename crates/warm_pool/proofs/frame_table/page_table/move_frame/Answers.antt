@@ -1,8 +1,0 @@
-use Rattle.std.proofs.Common.{◌∙◌}
-use Rattle.warm_pool.proofs.frame_table.PlaceLemmas.{moved_linked}
-use Rattle.warm_pool.proofs.frame_table.page_table.move_frame.Goals as goal
-
-pub returns : goal.returns
-returns g c =
-    moved_linked g.frames c.args.pages.now _ _ _ _ c.args.frame _ _ c.args.page c.requires.0 c.requires.1.1 c.requires.1.0
-    (c.link.ensures.size ∙ c.unlink.ensures.size) c.chain_of-to.ensures.is c.link.ensures.chains

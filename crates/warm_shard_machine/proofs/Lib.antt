@@ -1,0 +1,11 @@
+pub mod ShardStepLemmas
+pub mod DoneCallLemmas
+pub mod LendingLemmas
+pub mod ReadIntoLemmas
+pub mod FilledPinLemmas
+pub mod ToldDeviceLemmas
+pub mod NodeStepLemmas
+pub mod HoldsShardLemmas
+pub mod SendLemmas
+pub mod PoolPinLemmas
+pub mod ShardPinLemmas

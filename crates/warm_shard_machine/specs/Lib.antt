@@ -1,0 +1,5 @@
+pub mod ToldDevices
+pub mod ShardSteps
+pub mod Visits
+pub mod Laws
+pub mod Pins

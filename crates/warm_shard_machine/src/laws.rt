@@ -1,0 +1,18 @@
+//! Laws of one shard. Each function changes nothing: its contract is a theorem, which
+//! `specs/Laws.antt` and `specs/ToldDevices.antt` state in full.
+ghost use Rattle.warm_shard_machine.specs.Laws.{CallsAreANodes};
+ghost use Rattle.warm_shard_machine.specs.ToldDevices.{ToldAreOne};
+
+/// A legal list of calls of a shard is a legal list of steps of its node: of its calls, and of what
+/// it is asked beside them. That is to write back, of which a caller sees at most a count of
+/// failures, to pin pages that get zeros, or bytes that were read before, to name the next page of
+/// a warm-up, to forget pages, to replace devices, to take entries in, and to give what is in its
+/// history.
+pub fn calls_are_a_nodes()
+    ensures { CallsAreANodes }
+{}
+
+/// The numbers by which the call `Retire` tells of a device are those of one state alone.
+pub fn told_devices_are_one()
+    ensures { ToldAreOne }
+{}

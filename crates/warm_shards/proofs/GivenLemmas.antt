@@ -1,0 +1,340 @@
+-- Where each shard is given its part of a set of references, all together are given the set.
+use Rattle.std.proofs.Common.{◌≡◌, ◌⊎◌, inl, inr, ℕ, zero, suc, ◌+◌, ◌<◌, ◌≤◌, Bool, true, false, List, [], ◌∷◌, length, max, set, get_or, Result, Ok, Err, refl, sym, ap, subst, ◌∙◌, arith}
+use Rattle.std.specs.Prelude.{nat_eq, nat_lt, IfErr, OnOk}
+use Rattle.std.specs.List.{AllByRecursion}
+use Rattle.std.proofs.lemmas.Bool.{cases_eq, eqb-true, le-ltb, lt-ltb, ltb-false, ltb-true}
+use Rattle.std.proofs.lemmas.List.{length-set}
+use Rattle.warm_stamps.specs.declared.PageId.{PageId}
+use Rattle.warm_stamps.specs.declared.Reference.{Reference}
+use Rattle.warm_history.specs.declared.hist.Entry.{Entry}
+use Rattle.warm_history.specs.ReferenceSets.{ReferenceSet, set_of_list, ◌∪◌}
+use Rattle.warm_history.specs.Histories.{HistoryView, IsHistory, history, history_of_entries_at, references_of}
+use Rattle.warm_history.proofs.HistoryLemmas.{horizon-history}
+use Rattle.warm_history.proofs.JoinLemmas.{both_assoc, history_first, raised_to_no_later}
+use Rattle.warm_pool.specs.Unchanged.{KeepsBytes}
+use Rattle.warm_pool.specs.View.{view_of}
+use Rattle.warm_gossip.specs.declared.call.Call.TheVariants.{Absorb}
+use Rattle.warm_gossip.specs.declared.fault.NodeFault.{NodeFault}
+use Rattle.warm_gossip.specs.declared.fault.NodeFault.TheVariants.{Memory}
+use Rattle.warm_gossip.specs.Clauses.{Answered, DevicesAnswered, JoinsEntries, SameView, done}
+use Rattle.warm_gossip.specs.State.{NodeState, NodeView, empty_node, node_view}
+use Rattle.warm_shards.specs.Clauses.{HasPart, TakesInFirst}
+use Rattle.warm_shards.specs.EachShard.{OfFirst, Rises}
+use Rattle.warm_shards.specs.Given.{AreGiven, Gives, IsGiven, at_horizon}
+use Rattle.warm_shards.specs.Shards.{AreShards, IsShard, IsShardCount, no_shard, of_first_shards, of_shard, shard_at, shard_of, whole}
+use Rattle.warm_shards.proofs.AreShardsLemmas.{all_shards, at_each, some_shards}
+use Rattle.warm_shards.proofs.Buckets.{shard_horizon}
+use Rattle.warm_shards.proofs.Calls.{absorb_refused, bytes_after, bytes_same, keep_then, read_at, takes_shard}
+use Rattle.warm_shards.proofs.Dividing.{only_part, other_part, part_is_own}
+use Rattle.warm_shards.proofs.Lists.{filter_none, filter_within}
+use Rattle.warm_shards.proofs.PartLemmas.{no_part}
+use Rattle.warm_shards.proofs.WholeParts.{parts_taken}
+
+-- ---- the step
+
+-- each shard was given its part of S
+pub record EachIsGiven (S : ReferenceSet) (old new : List NodeState) : Type 0 where
+  pub count : length new ≡ length old
+  pub each : (i : ℕ) → i < length old → IsGiven (of_shard (length old) i S) (shard_at old i) (shard_at new i)
+
+beyond : (ns : List NodeState) (i : ℕ) → length ns ≤ i → shard_at ns i ≡ no_shard
+beyond [] i le = refl
+beyond (n ∷ ns) zero le = absurd (omega arith)
+beyond (n ∷ ns) (suc i) le = beyond ns i (omega arith)
+
+kept : (S : ReferenceSet) (old new : List NodeState) → EachIsGiven S old new → (i : ℕ)
+    → (view_of (shard_at new i).pool ≡ view_of (shard_at old i).pool)
+    × KeepsBytes (shard_at old i).pool (shard_at new i).pool
+kept S old new have i = cases (nat_lt i (length old)) refl
+  where
+    cases : (b : Bool) → nat_lt i (length old) ≡ b
+        → (view_of (shard_at new i).pool ≡ view_of (shard_at old i).pool)
+        × KeepsBytes (shard_at old i).pool (shard_at new i).pool
+    cases true is =
+        let given = have.each i (ltb-true i (length old) is) in
+        (ap (λ (v : NodeView). v.pool) given.0, given.1)
+    cases false is =
+        let over : length old ≤ i = ltb-false i (length old) is in
+        let same : shard_at new i ≡ shard_at old i = beyond new i (omega (arith, over, have.count)) ∙ sym (beyond old i over) in
+        (ap (λ (n : NodeState). view_of n.pool) same, subst (λ (n : NodeState). KeepsBytes (shard_at old i).pool n.pool) (sym same) (bytes_same (shard_at old i).pool))
+
+still : (S : ReferenceSet) (old new : List NodeState) → AreShards old → EachIsGiven S old new
+    → AreShards new
+still S old new are have =
+    let number = (shard_at old 0).id in
+    let later = max (shard_at old 0).history.horizon S.horizon in
+    all_shards number later new (subst IsShardCount (sym have.count) are.count) (omega (arith, have.count, some_shards old are)) (λ i lt.
+    subst (λ c. IsShard c number later i (shard_at new i)) (sym have.count) (takes_shard (length old) number (shard_at old 0).history.horizon i (shard_at old i) (shard_at new i) (of_shard (length old) i S) (are.each i (omega (arith, lt, have.count))) (have.each i (omega (arith, lt, have.count))).0 (part_is_own (λ (r : Reference). r.page) (length old) i S.given)))
+
+-- after each shard was given its part of S, all together have been given S
+pub given_all : (S : ReferenceSet) (old new : List NodeState) → AreShards old
+    → EachIsGiven S old new → AreGiven S old new
+given_all S old new are have =
+    let id : (shard_at new 0).id ≡ (shard_at old 0).id = ap (λ (v : NodeView). v.id) (have.each 0 (some_shards old are)).0 in
+    let h : whole new ≡ history (references_of (whole old) ∪ S) = parts_taken S old new are.count have.count (λ i lt. ap (λ (v : NodeView). v.history) (have.each i lt).0) in
+    record {
+      shards = still S old new are have;
+      given = λ pool. (λ i. record { id = id i; history = h i; pool = pool });
+      pools = record { count = have.count; views = λ i. (kept S old new have i).0; bytes = λ i. (kept S old new have i).1 };
+    }
+
+pub whole_given : (S : ReferenceSet) (old new : List NodeState) → AreGiven S old new
+    → whole new ≡ history (references_of (whole old) ∪ S)
+whole_given S old new have = ap (λ (v : NodeView). v.history) (have.given empty_node.pool)
+
+-- ---- one shard after the other
+
+-- a caller sees what it saw
+abbrev pub IsSame : NodeState → NodeState → Type 0
+IsSame n m = SameView n m × KeepsBytes n.pool m.pool
+
+-- the first k shards were given their part of S, and the others are as they were
+pub record GivenFirst (S : ReferenceSet) (k : ℕ) (old ns : List NodeState) : Type 0 where
+  pub count : length ns ≡ length old
+  pub first : (i : ℕ) → i < k → IsGiven (of_shard (length old) i S) (shard_at old i) (shard_at ns i)
+  pub rest : (i : ℕ) → k ≤ i → IsSame (shard_at old i) (shard_at ns i)
+
+same_then : (a b c : NodeState) → IsSame a b → IsSame b c → IsSame a c
+same_then a b c x y = (y.0 ∙ x.0, bytes_after a.pool b.pool c.pool x.1 y.1)
+
+given_then : (S : ReferenceSet) (a b c : NodeState) → IsSame a b → IsGiven S b c → IsGiven S a c
+given_then S a b c x y = (
+  subst (λ (v : NodeView). node_view c ≡ record v { history = history (references_of v.history ∪ S) }) x.0 y.0,
+  bytes_after a.pool b.pool c.pool x.1 y.1,
+)
+
+-- a node that is as it was was given no reference, at a horizon that is not later
+given_none : (time : ℕ) (n m : NodeState) → IsHistory n.history → time ≤ n.history.horizon
+    → IsSame n m → IsGiven (at_horizon time) n m
+given_none time n m valid le same = (
+  same.0 ∙ ap (λ (h : HistoryView). let v : NodeView = record (node_view n) { history = h } in v) (sym (raised_to_no_later n.history time valid le)),
+  same.1,
+)
+
+-- S is at no later horizon than the shards
+abbrev pub IsNoLater : ReferenceSet → List NodeState → Type 0
+IsNoLater S ns = S.horizon ≤ (shard_at ns 0).history.horizon
+
+no_more : (S T : ReferenceSet) (old : List NodeState) (i : ℕ) (m : NodeState) → AreShards old
+    → i < length old → IsNoLater S old → at_horizon S.horizon ≡ T → IsSame (shard_at old i) m
+    → IsGiven T (shard_at old i) m
+no_more S T old i m are lt le is same =
+    let o = are.each i lt in
+    subst (λ (U : ReferenceSet). IsGiven U (shard_at old i) m) is (given_none S.horizon (shard_at old i) m o.valid (omega (arith, le, o.horizon)) same)
+
+pub none_given : (S : ReferenceSet) (old : List NodeState) → GivenFirst S 0 old old
+none_given S old = record {
+  count = refl;
+  first = λ i lt. absurd (omega arith);
+  rest = λ i le. (refl, bytes_same (shard_at old i).pool);
+}
+
+-- the next shard has no part
+pub given_past : (S P : ReferenceSet) (k : ℕ) (old ns : List NodeState) → AreShards old
+    → k < length old → IsNoLater S old → P ≡ of_shard (length old) k S → P.given ≡ []
+    → GivenFirst S k old ns → GivenFirst S (k + 1) old ns
+given_past S P k old ns are lt le is none have = record {
+  count = have.count;
+  first = λ i less. elim (cases_eq k i) [
+    | inl same ↦ subst (λ x. IsGiven (of_shard (length old) x S) (shard_at old x) (shard_at ns x)) same (no_more S (of_shard (length old) k S) old k (shard_at ns k) are lt le (λ j. record { horizon = S.horizon; given = (sym none ∙ ap (λ (T : ReferenceSet). T.given) is) j }) (have.rest k (omega arith)))
+    | inr other ↦ have.first i (omega (arith, less, other))
+  ];
+  rest = λ i over. have.rest i (omega (arith, over));
+}
+
+-- the next shard was given its part P
+pub given_more : (S P : ReferenceSet) (k : ℕ) (old ns : List NodeState) (n m d : NodeState)
+    → k < length ns → n ≡ get_or ns k d → P ≡ of_shard (length old) k S → IsGiven P n m
+    → GivenFirst S k old ns → GivenFirst S (k + 1) old (set ns k m)
+given_more S P k old ns n m d lt at is given have =
+    let part = of_shard (length old) k S in
+    let here : IsGiven part (shard_at ns k) m = subst (λ (x : NodeState). IsGiven part x m) (read_at ns k n d lt at) (subst (λ (T : ReferenceSet). IsGiven T n m) is given) in
+    record {
+      count = length-set ns k m ∙ have.count;
+      first = at_each (λ i x. i < k + 1 → IsGiven (of_shard (length old) i S) (shard_at old i) x) ns k m lt (λ less. given_then part (shard_at old k) (shard_at ns k) m (have.rest k (omega arith)) here) (λ i other less. have.first i (omega arith));
+      rest = at_each (λ i x. k + 1 ≤ i → IsSame (shard_at old i) x) ns k m lt (λ over. absurd (omega arith)) (λ i other over. have.rest i (omega arith));
+    }
+
+-- a shard that has none yet refused its part
+pub given_stays : (S : ReferenceSet) (k j : ℕ) (old ns : List NodeState) (n m d : NodeState)
+    → j < length ns → k ≤ j → n ≡ get_or ns j d → IsSame n m → GivenFirst S k old ns
+    → GivenFirst S k old (set ns j m)
+given_stays S k j old ns n m d lt over at same have =
+    let here : IsSame (shard_at ns j) m = subst (λ (x : NodeState). IsSame x m) (read_at ns j n d lt at) same in
+    record {
+      count = length-set ns j m ∙ have.count;
+      first = at_each (λ i x. i < k → IsGiven (of_shard (length old) i S) (shard_at old i) x) ns j m lt (λ less. absurd (omega arith)) (λ i other less. have.first i less);
+      rest = at_each (λ i x. k ≤ i → IsSame (shard_at old i) x) ns j m lt (λ le. same_then (shard_at old j) (shard_at ns j) m (have.rest j over) here) (λ i other le. have.rest i le);
+    }
+
+-- ---- the whole call
+
+-- the part that a shard has of that of the first
+first_has : (count k i : ℕ) (S : ReferenceSet) → i < k
+    → of_shard count i S ≡ of_shard count i (of_first_shards count k S)
+first_has count k i S lt =
+    let low : Reference → Bool = λ r. nat_lt (shard_of count r.page) k in
+    let own : Reference → Bool = λ r. nat_eq (shard_of count r.page) i in
+    let same = filter_within own low (λ r is. let e : shard_of count r.page ≡ i = eqb-true (shard_of count r.page) i is in lt-ltb (shard_of count r.page) k (omega (arith, e, lt))) S.given in
+    λ j. record { horizon = S.horizon; given = sym same j }
+
+first_lacks : (count k i : ℕ) (S : ReferenceSet) → k ≤ i
+    → at_horizon S.horizon ≡ of_shard count i (of_first_shards count k S)
+first_lacks count k i S le =
+    let low : Reference → Bool = λ r. nat_lt (shard_of count r.page) k in
+    let own : Reference → Bool = λ r. nat_eq (shard_of count r.page) i in
+    let none = filter_none own low (λ r is. let e : shard_of count r.page ≡ i = eqb-true (shard_of count r.page) i is in le-ltb (shard_of count r.page) k (omega (arith, e, le))) S.given in
+    λ j. record { horizon = S.horizon; given = sym none j }
+
+given_some : (S : ReferenceSet) (k : ℕ) (old ns : List NodeState) → AreShards old
+    → IsNoLater S old → GivenFirst S k old ns → EachIsGiven (of_first_shards (length old) k S) old ns
+given_some S k old ns are le have = record { count = have.count; each = λ i lt. cases i lt (nat_lt i k) refl }
+  where
+    cases : (i : ℕ) → i < length old → (b : Bool) → nat_lt i k ≡ b
+        → IsGiven (of_shard (length old) i (of_first_shards (length old) k S)) (shard_at old i) (shard_at ns i)
+    cases i lt true is =
+        let low : i < k = ltb-true i k is in
+        subst (λ (T : ReferenceSet). IsGiven T (shard_at old i) (shard_at ns i)) (first_has (length old) k i S low) (have.first i low)
+    cases i lt false is =
+        let over : k ≤ i = ltb-false i k is in
+        no_more S (of_shard (length old) i (of_first_shards (length old) k S)) old i (shard_at ns i) are lt le (first_lacks (length old) k i S over) (have.rest i over)
+
+gives_ok : (S : ReferenceSet) (old new : List NodeState) (given : Unit {0}) → AreGiven S old new
+    → Gives S old (Ok given) new
+gives_ok S old new given have = record { shards = have.shards; given = have.given; refused = tt; pools = have.pools }
+
+-- all shards were given their parts
+pub gives_all : (S : ReferenceSet) (k : ℕ) (old ns : List NodeState) (given : Unit {0})
+    → AreShards old → length old ≤ k → GivenFirst S k old ns → Gives S old (Ok given) ns
+gives_all S k old ns given are over have =
+    gives_ok S old ns given (given_all S old ns are (record { count = have.count; each = λ i lt. have.first i (omega (arith, over, lt)) }))
+
+-- the first shards were, and one was not
+pub gives_first : (S : ReferenceSet) (k : ℕ) (old ns : List NodeState) (why : NodeFault)
+    → AreShards old → IsNoLater S old → why ≡ Memory → k < length old
+    → (k ≡ 0) ⊎ HasPart (length old) k S → GivenFirst S k old ns → Gives S old (Err why) ns
+gives_first S k old ns why are le memory lt part have =
+    let first = of_first_shards (length old) k S in
+    let all = given_all first old ns are (given_some S k old ns are le have) in
+    record { shards = all.shards; given = tt; refused = (memory, (k, lt, part, whole_given first old ns all)); pools = all.pools }
+
+-- none was
+pub gives_none : (S : ReferenceSet) (ns : List NodeState) (why : NodeFault) → AreShards ns
+    → IsNoLater S ns → why ≡ Memory → Gives S ns (Err why) ns
+gives_none S ns why are le memory =
+    gives_first S 0 ns ns why are le memory (some_shards ns are) (inl refl) (none_given S ns)
+
+-- what one node does to whom S is given
+pub record GivesOne (S : ReferenceSet) (n : NodeState) (result : Result Unit NodeFault)
+    (m : NodeState) : Type 0 where
+  pub given : OnOk result (IsGiven S n m)
+  pub refused : IfErr result (λ why. (why ≡ Memory) × IsSame n m)
+
+-- there are references to pages of one shard alone
+pub gives_alone : (S : ReferenceSet) (ns : List NodeState) (i : ℕ) (n m d : NodeState)
+    (result : Result Unit NodeFault) → AreShards ns → i < length ns → IsNoLater S ns
+    → AllByRecursion (λ r. shard_of (length ns) r.page ≡ i) S.given → n ≡ get_or ns i d
+    → GivesOne S n result m → Gives S ns result (set ns i m)
+gives_alone S ns i n m d (Err why) are lt le own at one =
+    gives_first S 0 ns (set ns i m) why are le one.refused.0 (some_shards ns are) (inl refl) (given_stays S 0 i ns ns n m d lt (omega arith) at one.refused.1 (none_given S ns))
+gives_alone S ns i n m d (Ok given) are lt le own at one =
+    let count = length ns in
+    let page : Reference → PageId = λ r. r.page in
+    let here : IsGiven S (shard_at ns i) m = subst (λ (x : NodeState). IsGiven S x m) (read_at ns i n d lt at) one.given in
+    let all : S ≡ of_shard count i S = λ j. record { horizon = S.horizon; given = sym (only_part page count i S.given own) j } in
+    let each = at_each (λ k x. k < count → IsGiven (of_shard count k S) (shard_at ns k) x) ns i m lt (λ less. subst (λ (T : ReferenceSet). IsGiven T (shard_at ns i) m) all here) (λ k other less. no_more S (of_shard count k S) ns k (shard_at ns k) are less le (λ j. record { horizon = S.horizon; given = sym (other_part page count i k S.given other own) j }) (refl, bytes_same (shard_at ns k).pool)) in
+    gives_ok S ns (set ns i m) given (given_all S ns (set ns i m) are (record { count = length-set ns i m; each = each }))
+
+-- ---- raised, and then given
+
+-- each shard rises: no reference is given, at this horizon
+pub risen_all : (time k : ℕ) (old ns : List NodeState) → AreShards old → length old ≤ k
+    → OfFirst (Rises time) k old ns → AreGiven (at_horizon time) old ns
+risen_all time k old ns are over risen =
+    given_all (at_horizon time) old ns are (record { count = risen.count; each = λ i lt. risen.first i (omega (arith, over, lt)) })
+
+pub kept_horizon : (ns : List NodeState) (n d : NodeState) (kept : ℕ) → AreShards ns
+    → n ≡ get_or ns 0 d → kept ≡ n.history.horizon → kept ≡ (whole ns).horizon
+kept_horizon ns n d kept are at is =
+    let some = some_shards ns are in
+    is ∙ ap (λ (x : NodeState). x.history.horizon) (read_at ns 0 n d some at) ∙ shard_horizon ns 0 are some some
+
+-- the first shard has at least the horizon to which all were raised
+pub raised_late : (old mid : List NodeState) (time : ℕ) → AreGiven (at_horizon time) old mid
+    → time ≤ (shard_at mid 0).history.horizon
+raised_late old mid time raised =
+    let some = some_shards mid raised.shards in
+    let at : (shard_at mid 0).history.horizon ≡ (whole mid).horizon = shard_horizon mid 0 raised.shards some some in
+    let is : (whole mid).horizon ≡ max (references_of (whole old)).horizon time = ap (λ (h : HistoryView). h.horizon) (whole_given (at_horizon time) old mid raised) ∙ horizon-history (references_of (whole old) ∪ at_horizon time) in
+    omega (arith, at, is)
+
+-- the horizon of S is given, and nothing else of it
+pub raised_alone : (old mid new : List NodeState) (time : ℕ) (S : ReferenceSet) → AreShards old
+    → time ≡ S.horizon → AreGiven (at_horizon time) old mid → whole new ≡ whole mid
+    → TakesInFirst old S new
+raised_alone old mid new time S are at raised same =
+    let R = references_of (whole old) in
+    let none : at_horizon time ≡ of_first_shards (length old) 0 S = λ i. record { horizon = at i; given = sym (no_part (length old) S.given) i } in
+    (0, some_shards old are, inl refl, same ∙ whole_given (at_horizon time) old mid raised ∙ ap (λ T. history (R ∪ T)) none)
+
+raised_then_in : (R S : ReferenceSet) (time : ℕ) → time ≡ S.horizon
+    → history (references_of (history (R ∪ at_horizon time)) ∪ S) ≡ history (R ∪ S)
+raised_then_in R S time at =
+    let T = at_horizon time in
+    let same : T ∪ S ≡ S = λ i. record { horizon = not_earlier time S.horizon at i; given = S.given } in
+    history_first (R ∪ T) S ∙ ap history (both_assoc R T S ∙ ap (λ U. R ∪ U) same)
+  where
+    not_earlier : (a b : ℕ) → a ≡ b → max a b ≡ b
+    not_earlier a b is = omega (arith, is)
+
+first_raised : (old mid new : List NodeState) (time : ℕ) (S : ReferenceSet) → time ≡ S.horizon
+    → AreGiven (at_horizon time) old mid → TakesInFirst mid S new → TakesInFirst old S new
+first_raised old mid new time S at raised (k, lt, part, some) =
+    let long : length mid ≡ length old = raised.pools.count in (
+      k,
+      omega (arith, lt, long),
+      subst (λ (count : ℕ). (k ≡ 0) ⊎ HasPart count k S) long part,
+      some
+          ∙ ap (λ (g : HistoryView). history (references_of g ∪ of_first_shards (length mid) k S)) (whole_given (at_horizon time) old mid raised)
+          ∙ raised_then_in (references_of (whole old)) (of_first_shards (length mid) k S) time at
+          ∙ ap (λ (count : ℕ). history (references_of (whole old) ∪ of_first_shards count k S)) long,
+    )
+
+-- where all shards have the horizon of S and then S is given, it is given
+pub raised_gives : (old mid new : List NodeState) (time : ℕ) (S : ReferenceSet)
+    (result : Result Unit NodeFault) → time ≡ S.horizon → AreGiven (at_horizon time) old mid
+    → Gives S mid result new → Gives S old result new
+raised_gives old mid new time S (Ok given) at raised gives = record {
+  shards = gives.shards;
+  given = λ pool.
+      let was = raised.given pool in
+      let is = gives.given pool in
+      let id : (shard_at new 0).id ≡ (shard_at old 0).id = ap (λ (v : NodeView). v.id) is ∙ ap (λ (v : NodeView). v.id) was in
+      let h : whole new ≡ history (references_of (whole old) ∪ S) = ap (λ (v : NodeView). v.history) is ∙ ap (λ (v : NodeView). history (references_of v.history ∪ S)) was ∙ raised_then_in (references_of (whole old)) S time at in
+      λ i. record { id = id i; history = h i; pool = pool };
+  refused = tt;
+  pools = keep_then old mid new raised.pools gives.pools;
+}
+raised_gives old mid new time S (Err why) at raised gives = record {
+  shards = gives.shards;
+  given = tt;
+  refused = (gives.refused.0, first_raised old mid new time S at raised gives.refused.1);
+  pools = keep_then old mid new raised.pools gives.pools;
+}
+
+-- ---- a batch, and entries
+
+pub absorbs : (batch : List Reference) (n m : NodeState) (result : Result Unit NodeFault)
+    → Answered n (Absorb batch) done result m → DevicesAnswered n (Absorb batch) done result m
+    → GivesOne (set_of_list batch) n result m
+absorbs batch n m (Ok given) step devices = record { given = (step, devices); refused = tt }
+absorbs batch n m (Err why) step devices =
+    let refused = absorb_refused n m batch why step in
+    record { given = tt; refused = (refused.0, (refused.1, devices)) }
+
+pub joins : (horizon : ℕ) (es : List Entry) (n m : NodeState) (result : Result Unit NodeFault)
+    → OnOk result (JoinsEntries n horizon es m)
+    → IfErr result (λ why. (why ≡ Memory) × SameView n m) → KeepsBytes n.pool m.pool
+    → GivesOne (references_of (history_of_entries_at horizon es)) n result m
+joins horizon es n m (Ok given) joined refused devices = record { given = (joined, devices); refused = tt }
+joins horizon es n m (Err why) joined refused devices = record { given = tt; refused = (refused.0, (refused.1, devices)) }

@@ -1,0 +1,10 @@
+use Rattle.std.proofs.Common.{◌≤◌, length}
+use Rattle.warm_shards.specs.EachShard.{Rises, OfFirst}
+use Rattle.warm_shards.proofs.each_shard.raise_first.Given as goal
+
+-- the first nodes have gone so
+abbrev pub invariant-loop-shard : goal.invariant-loop-shard
+invariant-loop-shard g l = record {
+  gone : OfFirst (Rises l.horizon) l.shard l.fn.nodes.items l.nodes.items;
+  count : l.count ≤ length l.fn.nodes.items;
+}

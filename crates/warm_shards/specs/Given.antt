@@ -1,0 +1,38 @@
+-- References that are given to shards: each takes in those to its pages.
+use Rattle.std.specs.Prelude.{◌≡◌, ℕ, List, [], IfErr, OnOk, Result}
+use Rattle.warm_history.specs.ReferenceSets.{ReferenceSet, ◌∪◌}
+use Rattle.warm_history.specs.Histories.{history, references_of}
+use Rattle.warm_pool.specs.Unchanged.{KeepsBytes}
+use Rattle.warm_gossip.specs.declared.fault.NodeFault.{NodeFault}
+use Rattle.warm_gossip.specs.declared.fault.NodeFault.TheVariants.{Memory}
+use Rattle.warm_gossip.specs.State.{NodeState, node_view}
+use Rattle.warm_shards.specs.Clauses.{KeepPools, TakesInAll, TakesInFirst}
+use Rattle.warm_shards.specs.Shards.{AreShards}
+
+-- no reference, at this horizon
+abbrev pub at_horizon : ℕ → ReferenceSet
+at_horizon time = record { horizon = time; given = [] }
+
+-- the node has taken in the references of S, at the later horizon of both; nothing else has changed
+-- that a caller sees, nor a device, nor the bytes or the dirty flag of a frame
+abbrev pub IsGiven : ReferenceSet → NodeState → NodeState → Type 0
+IsGiven S old new = (node_view new
+    ≡ record (node_view old) { history = history (references_of old.history ∪ S) })
+    × KeepsBytes old.pool new.pool
+
+-- The shards together have taken in the references of S, at the later horizon of both. They are
+-- still the shards of a replica, and their pools are as they were.
+pub record AreGiven (S : ReferenceSet) (old new : List NodeState) : Type 0 where
+  pub shards : AreShards new
+  pub given : TakesInAll old S new
+  pub pools : KeepPools old new
+
+-- What a call leaves that gives the references of S to shards. They have taken in all of S, or,
+-- where memory was refused, its horizon and what it has for the first shards. They are still the
+-- shards of a replica, and their pools are as they were.
+pub record Gives (S : ReferenceSet) (old : List NodeState) (result : Result Unit NodeFault)
+    (new : List NodeState) : Type 0 where
+  pub shards : AreShards new
+  pub given : OnOk result (TakesInAll old S new)
+  pub refused : IfErr result (λ why. (why ≡ Memory) × TakesInFirst old S new)
+  pub pools : KeepPools old new
