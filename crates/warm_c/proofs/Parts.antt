@@ -36,7 +36,7 @@ pub pair_is : (whole first second : List Val) (v w : Val)
     → whole ≡ pair v w ∷ []
 pair_is whole first second v w made one other = made ∙ (λ i. vstruct (of_list (one i ++ (other i ++ []))) ∷ [])
 
--- the same, where the first is a pointer that is known to point into a block
+-- the same, if the first is a pointer that is known to point into a block
 pub pointer_is : (whole first second : List Val) (p : Ptr) (b o : ℕ) (w : Val)
     → whole ≡ vstruct (of_list (first ++ (second ++ []))) ∷ [] → first ≡ ptr_val p ∷ []
     → p ≡ block_ptr b o → second ≡ w ∷ []

@@ -101,7 +101,7 @@ gives_spent old new is = (
 abbrev pub nothing : ℕ → ReferenceSet
 nothing i = set_of_list []
 
--- where one shard gave nothing, and the others were not called
+-- if one shard gave nothing, and the others were not called
 one_nothing : (old new : List ShardPass) (i : ℕ) → i < length old → KeepsOtherPasses old i new
     → Gives (set_of_list []) (shard_pass old i) (shard_pass new i)
     → EachGives nothing (length old) old new
@@ -134,7 +134,7 @@ sum_nothing : (n : ℕ) → sum nothing n ≡ set_of_list []
 sum_nothing zero = refl
 sum_nothing (suc n) = union_none (sum nothing n) ∙ sum_nothing n
 
--- where some shards gave nothing, and the others were not called
+-- if some shards gave nothing, and the others were not called
 gave_nothing : (k : ℕ) (old new : List ShardPass) → EachGives nothing k old new
     → HasGivenNothing old new
 gave_nothing k old new given =
@@ -247,7 +247,7 @@ first_parts S k old new le given =
       others = λ i high. given.others i (omega (arith, high, le));
     }
 
--- where the first k shards have their parts, and nothing more was given
+-- if the first k shards have their parts, and nothing more was given
 stopped : (S : ReferenceSet) (k : ℕ) (old mid new : List ShardPass) → k ≤ length old
     → EachGives (λ i. of_shard (length old) i S) k old mid → EachGives nothing (length mid) mid new
     → HasGiven (given_to_first (length old) k S) old new
@@ -291,7 +291,7 @@ take_stopped message k why old new (mid, lt, taken, inr fails) =
     stopped (refs_in message) k old mid new (omega (arith, lt)) (taken_each message k old mid taken)
     (fails_each mid new k (part_call (length old) message k) why (λ w. refl) (omega (arith, lt, taken.count)) fails)
 
--- where all shards were raised, and then nothing was given
+-- after all shards are raised, and nothing more is given
 after_raise : (time : ℕ) (old mid new : List ShardPass) → RaisesFirst time (length old) old mid
     → EachGives nothing (length mid) mid new
     → HasGiven (given_to_first (length old) (length old) (only_horizon time)) old new

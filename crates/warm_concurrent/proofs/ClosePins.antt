@@ -56,7 +56,7 @@ all_closed (n ∷ ns) (o ∷ os) (p ∷ ps) long also each =
     let rest = all_closed ns os ps (omega (arith, long)) (omega (arith, also)) (λ i lt. each (suc i) (omega (arith, lt))) in
     omega (arith, new, old, removed, given, first, rest)
 
--- where no frame without a page was pinned
+-- if no frame without a page was pinned
 come_back : (opened : List NodeState) (turns : List ShardTurn) (thread : AttachedView)
     (nodes : List NodeState) → openings turns ≡ shards_over opened
     → ((i : ℕ) → i < length opened → IsFree (view_of (shard_at opened i).pool))
@@ -98,7 +98,7 @@ no_sum f d (x ∷ xs) each =
     let rest = no_sum f d xs (λ i lt. each (suc i) (omega (arith, lt))) in
     omega (arith, more, first, rest)
 
--- where frames have no pins together, none has one
+-- if frames have no pins together, none has one
 none_in : (fs : List FrameView) → pins_in fs ≡ 0 → (j : ℕ) → (get_or fs j no_frame).fixes ≡ 0
 none_in fs none j = elim (below j (length fs)) [
   | inl lt ↦ omega (arith, none, get_or-le-sum_by (λ f. f.fixes) fs j no_frame lt)

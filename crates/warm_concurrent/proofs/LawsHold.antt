@@ -56,7 +56,7 @@ module _ (P : ShardPass → ShardPass → Type 0) (self : (p : ShardPass) → P 
   same_so : (old new : ShardPass) → new ≡ old → P old new
   same_so old new is = subst (λ (p : ShardPass). P old p) (sym is) (self old)
 
-  -- where one pass changes so, and the others are as they were
+  -- if one pass changes so, and the others are as they were
   one_so : (old new : List ShardPass) (i : ℕ) → i < length old → KeepsOtherPasses old i new
       → P (shard_pass old i) (shard_pass new i) → EachIsSo old new
   one_so old new i lt others changed = (

@@ -27,7 +27,7 @@ may_answer v w c r o opens called own =
     let own' : IsOwn last.0.count last.0.number c = subst (λ n. IsOwn last.0.count n c) number (subst (λ n. IsOwn n o.number c) count own) in
     (last.0.node, legal.1.node, own_step last.0 legal.1 c r own' last.2)
 
--- where one pass changes and is still of its turn, all are of their turns
+-- if one pass changes and is still of its turn, all are of their turns
 pub still_of : (turns : List ShardTurn) (old : List ShardPass) (i : ℕ) (p : ShardPass)
     → AreOf turns old → i < length turns → IsPassOf (shard_turn turns i) p
     → AreOf turns (set old i p)

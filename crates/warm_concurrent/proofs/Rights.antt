@@ -149,7 +149,7 @@ moved n (p ∷ other ∷ []) (q ∷ r ∷ []) after (is, also) = record {
 }
 moved n these left after none = absurd none
 
--- so it is where others stand before them
+-- the same if other threads stand before them
 moved_behind : (n : ℕ) (before these left after : Threads) → Moves these left
     → StayAll n (before ++ these ++ after) (before ++ left ++ after)
 moved_behind n [] these left after moves = moved n these left after moves

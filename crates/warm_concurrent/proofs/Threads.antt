@@ -78,7 +78,7 @@ one_in (l ∷ ls) zero lt = includes_left (gave l) (gave_together ls) (gave l) (
 one_in (l ∷ ls) (suc i) lt =
     includes_right (gave l) (gave_together ls) (gave (log_at ls i)) (one_in ls i (omega (arith, lt)))
 
--- where a set includes what each log gives, it includes what all give
+-- if a set includes what each log gives, it includes what all give
 together_in : (T : ReferenceSet) (logs : List Log)
     → ((i : ℕ) → i < length logs → Includes T (gave (log_at logs i)))
     → Includes T (gave_together logs)
@@ -102,7 +102,7 @@ rest_in n e es = cases (e.by == n) refl
         rw is (includes_right (gave_call e.call e.reply) (gave (calls_by n es)) (gave (calls_by n es)) (includes_self (gave (calls_by n es))))
     cases false is = rw is (includes_self (gave (calls_by n es)))
 
--- where a set includes what the calls of each of these numbers give, and each operation has one of
+-- if a set includes what the calls of each of these numbers give, and each operation has one of
 -- these numbers, it includes what all operations give
 all_in : (P : ℕ → Type 0) (T : ReferenceSet) (log es : Log)
     → ((n : ℕ) → P n → Includes T (gave (calls_by n log)))

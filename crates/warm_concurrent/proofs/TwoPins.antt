@@ -10,7 +10,7 @@ use Rattle.warm_concurrent.proofs.Rights.{alone_has_all, calls_keep}
 use Rattle.warm_concurrent.proofs.ThreadPins.{pins_are_counted}
 use Rattle.warm_concurrent.proofs.Threads.{moves_there}
 
--- a thread with these passes, which counts so many pins
+-- a thread with these passes, which counts this many pins
 abbrev thread : List ShardPass → ℕ → AttachedView
 thread passes pins = record { passes = passes; pins = pins }
 

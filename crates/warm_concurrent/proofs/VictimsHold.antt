@@ -56,7 +56,7 @@ written_keeps n m slot at bytes step i =
     let goes = step.0 in
     same_pages (pages_of n) (pages_of m) (ap (λ (v : PoolView). v.frames) goes.1.1.becomes) i
 
--- nothing leaves where each frame keeps its page
+-- nothing leaves if each frame keeps its page
 none_kept : (v w : PoolView) (p : PageId) → KeepsPages v w → IsEvicted v w p → ⊥
 none_kept v w p keeps (was, gone) = gone was.frame (keeps was.frame ∙ was.holds)
 
@@ -130,7 +130,7 @@ filled_leaves : (G : ReferenceSet) (o m : NodeState) (p : PageId) (r : Reply) �
 filled_leaves G o m p r stands goes v gone =
     (victims_are_farthest G (node_view o) (node_view m) (node_call.Pin p) r stands goes).leaves v (pin_other p) gone
 
--- nothing leaves where nothing changes
+-- nothing leaves if nothing changes
 none_left : (v : PoolView) (p : PageId) → IsEvicted v v p → ⊥
 none_left v p (was, gone) = gone was.frame was.holds
 

@@ -38,7 +38,7 @@ CallEnds old i call reply (Ok given) new = AnsweredByShard old i call (reply giv
 CallEnds old i call reply (Err why) new = CallFails old i call why new
 
 -- the result of a call with a slot corresponds to the reply of the slot's shard, or to its refusal;
--- where there is no such shard the slot is stale, and no turn was entered
+-- if there is no such shard, the slot is stale, and no turn was entered
 abbrev pub SlotCallEnds : {T : Type 0} → List ShardPass → ℕ → ShardCall → (T → ShardReply)
     → Result T SharedFault → List ShardPass → Type 0
 SlotCallEnds old i call reply result new =

@@ -113,8 +113,8 @@ impl<D: PageDevice + Send> SharedShards<D> {
     ///
     /// # Errors
     /// The shards before the number given have forgotten their pages, and the others have not:
-    /// `Node(Pool(NoDevice))`, where that shard has no device of this number; `Node(Pool(Fixed))`,
-    /// where one of its pages is pinned; or `TurnsSpent`.
+    /// `Node(Pool(NoDevice))`, if that shard has no device of this number; `Node(Pool(Fixed))`, if
+    /// one of its pages is pinned; or `TurnsSpent`.
     pub fn forget_pages<R: Wait>(
         &self,
         rt: &R,

@@ -24,7 +24,7 @@ use Rattle.warm_rank.proofs.Outranked.{all_has, contains_has, has_contains, has_
 
 -- ---- which pages a warm-up list has
 
--- where a rising list is cut, what comes before an item that is left is left
+-- if a rising list is cut, what comes before an item that is left is left too
 cut_closed : {A : Type 0} (cmp : A → A → Ordering) → IsStrictOrder cmp → (n : ℕ) (xs : List A)
     → IsAscending cmp xs → (x y : A) → Has (take n xs) x → Has xs y → cmp y x ≡ Less
     → Has (take n xs) y

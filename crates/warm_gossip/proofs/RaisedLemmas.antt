@@ -1,5 +1,5 @@
--- What a history says of pages as before: of those of which it takes in no reference, where its
--- horizon does not rise; and of all, where its entries stay. No page falls.
+-- What a history says as before: of a page to which it takes in no reference, if its horizon does
+-- not rise; of all pages, if its entries stay. No page falls.
 use Rattle.std.proofs.Common.{◌≡◌, ℕ, ◌≤◌, List, [], ◌∷◌, map, filter, Option, Some, None, IfSome, inl, inr, sym, subst, ap, ◌∙◌, arith}
 use Rattle.std.proofs.lemmas.List.{map-append}
 use Rattle.std.specs.Option.{option_map}

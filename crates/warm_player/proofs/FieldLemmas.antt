@@ -89,7 +89,7 @@ slot_read (c ∷ cs) none =
     ∙ slot_then (split 46 (first_word (c ∷ cs))) (λ s. Some (s, words_later (c ∷ cs)))
     ∙ pair_end 46 4294967295 (c ∷ cs) (λ s g later. Some (slot s g, later)) (behind 46 (after_digits (c ∷ cs))) refl (λ e. absurd (omega arith)) refl
 
--- ---- a page, or nothing where the line ends
+-- ---- a page, or nothing if the line ends
 
 pub after_nothing : (text : List ℕ) → length text ≡ 0 → after_field (words text) ≡ Some (None, [])
 unfolding after_field words

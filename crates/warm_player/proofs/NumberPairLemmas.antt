@@ -170,7 +170,7 @@ same_rest : {A B : Type 0} (o : Option A) (f g : A → Option B) → ((x : A) �
 same_rest None f g e = refl
 same_rest (Some x) f g e = e x
 
--- the first word is two numbers where it ends behind the second; `o` is what is behind the first
+-- the first word is two numbers if it ends behind the second; `o` is what is behind the first
 -- separator
 pub pair_end : {A : Type 0} (s limit : ℕ) (text : List ℕ) (make : ℕ → ℕ → List (List ℕ) → Option A)
     (o : Option (List ℕ)) → digit_of s ≡ None → s ≢ 32 → behind s (after_digits text) ≡ o

@@ -95,7 +95,7 @@ pub nothing_then : {A B : Type 0} (o : Option A) (none : A → Option B) → ((a
 nothing_then None none h = refl
 nothing_then (Some a) none h = sym (h a)
 
--- the first word spells the number of its digits where the word ends behind them
+-- the first word spells the number of its digits if the word ends behind them
 pub number_end : {A : Type 0} (limit : ℕ) (text : List ℕ) (make : ℕ → List (List ℕ) → Option A)
     → (number_up_to limit (first_word text) >>= λ n. make n (words_later text))
     ≡ (head_number limit text >>= λ (x : ℕ × List ℕ). words_behind x.1 >>= λ later. make x.0 later)

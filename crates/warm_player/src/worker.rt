@@ -32,7 +32,7 @@ pub enum WorkerRequest {
 #[error("NotForWorker")]
 pub struct NotForWorker;
 
-// The request of an event to a worker. `None` where it has none.
+// The request of an event to a worker. `None` if it has none.
 fn request_of(event: &Event) -> Option<WorkerRequest>
     ensures { result ≡ worker_request_of event.now }
 {

@@ -92,7 +92,7 @@ bytes_held s i p others w e = elim (where_is s.frames p) [
   | inr h ↦ absurd (h.nowhere i e)
 ]
 
--- what the page would be elsewhere counts only where it is in no frame
+-- what the page would be elsewhere counts only if it is in no frame
 pub bytes_alike : (frames : List FrameState) (p : PageId) (a b : List ℕ)
     → (IsNowhere frames p → a ≡ b) → bytes_in frames p a ≡ bytes_in frames p b
 bytes_alike frames p a b same = elim (where_is frames p) [
@@ -109,7 +109,7 @@ bytes_kept (f ∷ fs) p others zero g a b =
     ap (λ o. cond (is_page p o) g.bytes (bytes_in fs p others)) a ∙ ap (λ t. cond (is_page p f.page) t (bytes_in fs p others)) b
 bytes_kept (f ∷ fs) p others (suc i) g a b = ap (λ t. cond (is_page p f.page) f.bytes t) (bytes_kept fs p others i g a b)
 
--- the table of contents, where each page has the bytes that it had
+-- the table of contents, if each page has the bytes that it had
 pub contents_same : (frames gs : List FrameState) (ds es : List DeviceState) → length es ≡ length ds
     → ((k : ℕ) → (nth_device es k).pages ≡ (nth_device ds k).pages)
     → ((p : PageId) → bytes_of gs es p ≡ bytes_of frames ds p)

@@ -110,7 +110,7 @@ failures_grown old new k e is more =
     ap (map (λ (d : DeviceState). d.failures)) is ∙ map-set (λ (d : DeviceState). d.failures) old k e
     ∙ ap (set (map (λ (d : DeviceState). d.failures) old) k) (more ∙ ap one_more (sym (mapped (λ (d : DeviceState). d.failures) old k no_device)))
 
--- what a caller sees where the call failed
+-- what a caller sees if the call failed
 pub fails_at : (s : PoolState) (new : List DeviceState) (k : ℕ) (e : DeviceState)
     → k < length s.devices → new ≡ set s.devices k e
     → KeptDevices s.frames s.devices new → (nth_device s.devices k).unfailing ≡ false
@@ -123,7 +123,7 @@ fails_at s new k e h is kept may more = record {
       ∙ ap (λ (failures : List ℕ). let v : PoolView = record (view_of s) { failures = failures } in v) (failures_grown s.devices new k e is more);
 }
 
--- what a caller sees where the call didn't fail
+-- what a caller sees if the call didn't fail
 pub same_view : (s : PoolState) (new : List DeviceState) (k : ℕ) (e : DeviceState)
     → new ≡ set s.devices k e
     → KeptDevices s.frames s.devices new → e.failures ≡ (nth_device s.devices k).failures
@@ -155,7 +155,7 @@ read_once old new k n bytes result r ok =
     let failures : r.after.failures ≡ (nth_device old k).failures = subst (λ x. CountsFault Read x (nth_device old k) r.after) ok r.call.faults in
     r.becomes ∙ ap (set old k) (read_after r (nth_device old k).failures failures)
 
--- where it was not read, a failure is counted
+-- if it was not read, a failure is counted
 pub read_counted : (old new : List DeviceState) (k n : ℕ) (bytes : List ℕ)
     (result : Result (Unit {0}) DeviceFault) (fault : DeviceFault)
     → PageRead old new k n bytes result → result ≡ Err fault → new ≡ failed_at k old

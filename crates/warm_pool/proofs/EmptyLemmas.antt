@@ -171,7 +171,7 @@ pub empty_settled : (t : PoolState) → IsSettled t
     → IsSettled (record t { frames = vacated_selected All t.frames })
 empty_settled t settled = record { clean = λ i. ap (λ f. f.dirty) (nth_vacated All t.frames i); flushed = settled.flushed }
 
--- the same, where the frames are said by an equation
+-- the same, if an equation gives the frames
 pub becomes_empty : (P : PoolState → Type 0) (which : Devices) (old new : FramesState) (spare : ℕ)
     (devices : List DeviceState) → new ≡ record old { frames = vacated_selected which old.frames }
     → P (record (pool_from old spare devices) { frames = vacated_selected which old.frames })

@@ -171,7 +171,7 @@ module _ (s : PoolState) (dev from : ℕ) (there : dev < length s.devices)
         ∙ sym (contents_seen s p in_it.0 in_it.1);
   }
 
--- the same, where the frames are said by an equation
+-- the same, if an equation gives the frames
 pub forget_pool : (which : Devices) (old new : FramesState) (spare : ℕ) (devices : List DeviceState)
     → IsPool (pool_from old spare devices) → AreUnfixed which old.frames
     → new ≡ record old { frames = vacated_selected which old.frames }

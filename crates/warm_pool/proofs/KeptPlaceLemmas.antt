@@ -32,7 +32,7 @@ record IsAsBefore (old new : FrameView) : Type 0 where
   page : new.page ≡ old.page
   generation : new.generation ≡ old.generation
 
--- where each frame has its page still, or none, the pages that are resident still have not moved
+-- if each frame still has its page, or none, the pages that are resident still have not moved
 kept_or_left : (v w : PoolView) → IsOnce v
     → ((i : ℕ) → IsAsBefore (frame_at v i) (frame_at w i) ⊎ ((frame_at w i).page ≡ None))
     → KeepsPlaces v w

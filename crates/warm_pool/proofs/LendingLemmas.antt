@@ -25,7 +25,7 @@ dropped_all xs n most = length-drop n xs ∙ omega arith
 pub length-refilled : (old w : List ℕ) → length (refilled old w) ≡ length old
 length-refilled old w = simp (length-take, length-append, length-drop) (omega arith)
 
--- all that was left, where its length is that of the page
+-- all bytes that were left, if they are as many as a page has
 pub refilled_whole : (old w : List ℕ) → length w ≡ length old → refilled old w ≡ w
 refilled_whole old w same = ap (λ n. take n (w ++ drop (length w) old)) (sym same) ∙ take-append_seam w (drop (length w) old)
 

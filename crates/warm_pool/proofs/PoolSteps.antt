@@ -90,18 +90,18 @@ pub found_iff : {s : PoolState} → IsPool s → (p : PageId) (found : Option �
 found_iff {s} w p (Some i) h t is = (λ _. seen_resident w p i h, λ _. is)
 found_iff {s} w p None h t is = (λ yes. absurd (cc), λ r. absurd (seen_nowhere w p h r))
 
--- what holds exactly where a check succeeds
+-- what holds exactly if a check succeeds
 pub ok_iff : {T E : Type 0} (r : Result T E) (P : Type 0) → OnOk r P → OnErr r (P → ⊥) → (t : Bool)
     → t ≡ is_ok r → IsTrue t ↔ P
 ok_iff (Ok x) P holds fails t is = (λ _. holds, λ _. is)
 ok_iff (Err e) P holds fails t is = (λ yes. absurd (cc), λ p. absurd (fails p))
 
--- what holds where a call succeeds
+-- what holds if a call succeeds
 pub of_ok : {T E P : Type 0} (r : Result T E) → true ≡ is_ok r → OnOk r P → P
 of_ok (Ok v) is holds = holds
 of_ok (Err e) is holds = absurd cc
 
--- what holds where a call fails
+-- what holds if a call fails
 pub of_err : {T E P : Type 0} (r : Result T E) → false ≡ is_ok r → OnErr r P → P
 of_err (Ok v) is holds = absurd cc
 of_err (Err e) is holds = holds

@@ -137,7 +137,7 @@ each_renewed {s} {t} h pages k r all i p holds named = elim (r.keys i p (sym (r.
     below : (j : ℕ) → j < length pages → j < k
     below j lt = omega arith
 
--- the same where items name the pages
+-- the same for the pages that items name
 pub named_renewed : {A : Type 0} {s t u : PoolState} (h : HistoryView) (named : A → PageId)
     (items : List A) (k : ℕ) (item : A) {q : PageId} → Renewed s t h (map named items) k
     → k < length items

@@ -212,7 +212,7 @@ module _ (dev : ℕ) (t : PoolState) (device : DeviceState) (there : dev < lengt
       → Retired (view_of s) dev device (view_of u)
   retired_view s same = subst (λ v. Retired v dev device (view_of u)) same retired_seen
 
--- the same, where frames and devices are said by equations
+-- the same, if equations give frames and devices
 pub took_in : (old new : FramesState) (spare : ℕ) (devices later : List DeviceState) (dev : ℕ)
     (device : DeviceState) → IsPool (pool_from old spare devices) → dev < length devices
     → device.page_size ≡ old.page_size

@@ -37,7 +37,7 @@ none_left true room is = elim (cases_eq room 0) [
   | inr ne ↦ let no : Some (room - 1) ≡ None = sym (ap (λ (t : Bool). room_if t room) (ne_eqb room 0 ne)) ∙ is in absurd (cc)
 ]
 
--- The pages of the frames before `at` were written back, and room is left for so many more.
+-- The pages of the frames before `at` were written back, and room is left for this many more.
 pub record SomeSoFar (limit at room : ℕ) (old new : PoolState) : Type 0 where
   pub spent : dirty_count (take at old.frames) + room ≡ limit
   pub down : WritesBack (cleaned_selected All at old.frames) old new

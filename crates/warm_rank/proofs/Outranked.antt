@@ -1,4 +1,4 @@
--- The first n of a rising list, where each item that is left out comes after n that are in.
+-- The first n of a rising list, if each item that is left out comes after n that are in.
 --
 -- Such an item r goes in behind n others, so it changes nothing among the first n. One after the
 -- other, all that were left out go in so. What is left out twice, or is there already, goes in

@@ -41,7 +41,7 @@ module _ {A : Type 0} (cmp : A → A → Ordering) (order : IsStrictOrder cmp) (
       (λ tied. absurd (absent (inl (sym (order.same x y tied)))))
       (λ more. rw more (omega (arith, count_by-more y (insert_distinct cmp x ys), count_by-more y ys, count_by-insert x ys (λ has. absent (inr has)))))
 
--- no reference is made twice, where stamps rise
+-- no reference is made twice, if stamps rise
 absent : (r : Reference) (rs : List Reference)
     → AllByRecursion (λ s. stamp_cmp r.stamp s.stamp ≡ Less) rs → Has rs r → ⊥
 absent r rs above has =
@@ -94,8 +94,7 @@ distance_in-older r rs (a ∷ b ∷ ss) below =
 not_one : (n : ℕ) → (suc (suc n) == 1) ≡ false
 not_one n = grind (arith, nat_tests)
 
--- a reference to the page, older than all its stamps, is the last but one where the page has one
--- stamp
+-- a reference to the page, older than all its stamps, is the last but one if the page has one stamp
 distance_in-last : (r : Reference) (rs : List Reference) (ss : List Stamp)
     → AllByRecursion (λ s. stamp_cmp r.stamp s.stamp ≡ Less) rs
     → ((t : Stamp) → Has ss t → stamp_cmp r.stamp t ≡ Less)

@@ -179,7 +179,7 @@ other_reply : (message : Message) (reply : Reply) → ((x : List Message) → re
 other_reply message (Answers messages) not = absurd (not messages refl)
 other_reply message reply not = (refl, refl, refl)
 
--- bytes that were not decoded spell a message only where that reserves capacity
+-- bytes that were not decoded spell a message only if that reserves capacity
 pub no_frame : (r : Result Message FrameFault) (bytes : List ℕ) → ((x : Message) → r ≡ Ok x → ⊥)
     → ((message : Message) → Encodes bytes message
     → GivesReading r (Ok message) (reserved_by bytes))
@@ -310,7 +310,7 @@ module _ {I : Type 0} (gives : I → Option Mail → I → Type 0) (mail rest : 
       → Took gives mail stops turns items
   took_all few last none = record { rest = rest; given = given; bound = few; missing = missing; ends = inr (inr (last, none)) }
 
--- where each item costs one of the rest, at most as many items are taken as were left
+-- if each item costs one of the rest, at most as many items are taken as were left
 pub few_items : {S : Type 0} (left : S → ℕ) (s : S) (items : List Mail) (t : S)
     → Yields (λ (a : S) (item : Option Mail) (b : S). IfSome item (λ x. left a ≡ left b + 1)) s
     items t → length items ≤ left s

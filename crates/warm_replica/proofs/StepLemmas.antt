@@ -38,7 +38,7 @@ one_way (Ok z) x y is not = let never : Ok z ≡ Err x = is in absurd (cc)
 one_way (Err z) x y one two = let p : Err z ≡ Err x = one in let q : Err z ≡ Err y = two in cc
 
 module _ {X : Type 0} (v w : Working X Call Reply) (step : Step) where
-  -- what the worker's buffer and mark were and are, where the step was answered so
+  -- what the worker's buffer and mark were and are, if the step was answered so
   abbrev GaveTo : StepReply → Calls → Step → Type 0
   GaveTo reply made s = Gave v.buffer.capacity v.pass.view.number v.pass.view.found_last v.buffer.refs s reply w.pass.view.found_last w.buffer.refs made
 

@@ -56,7 +56,7 @@ is_done take so_far entries meant e ends = sym ends ∙ ap (λ (es : List Entry)
 abbrev pub data_of : List Value → List Data
 data_of = map view
 
--- what is meant where some elements are read, and these are left
+-- what is meant if some elements are read, and these are left
 abbrev pub each_after : {A : Type 0} → (Data → Result A SetupFault) → List A → List Data
     → Result (List A) SetupFault
 each_after take done left = each take left >>= λ more. Ok (done ++ more)

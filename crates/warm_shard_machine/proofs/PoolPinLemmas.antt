@@ -45,7 +45,7 @@ pool_free s pool i page =
     let seen = frame_seen s i in
     ap (λ (f : FrameView). f.fixes) seen ∙ (pool.bare i (sym (ap (λ (f : FrameView). f.page) seen) ∙ page)).1
 
--- so many pins were given, and so many removed, and still no frame without a page is pinned
+-- this many pins were given, and this many removed, and still no frame without a page is pinned
 pub record Moves (given removed : ℕ) (v w : PoolView) : Type 0 where
   pub count : pins_in w.frames + removed ≡ pins_in v.frames + given
   pub free : IsFree w

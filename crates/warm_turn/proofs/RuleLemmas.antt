@@ -136,7 +136,7 @@ module _ {M X C R : Type 0} (view_of : M → X) (goes : X → C → R → X → 
         shares = same_shares s r me v w at refl refl;
       }
 
-  -- where every ticket was served, the machine is at home
+  -- if every ticket was served, the machine is at home
   at_home : (s : St) → Rule s → serving_word s ≡ ticket_word s
       → (h : H) × (get_elem? s.homes 0 ≡ some (some (Some h)))
   at_home s r even = ⊎_elim
@@ -186,7 +186,7 @@ module _ {M X C R : Type 0} (view_of : M → X) (goes : X → C → R → X → 
     refl,
   )
 
-  -- the next ticket is taken where it is served, and the machine with it
+  -- if the next ticket is served, it is taken, and the machine with it
   seizes_next : (s : St) (r : Rule s) (me : ℕ) (v : V) → get_elem? s.views me ≡ some v
       → v.sees ≡ true → v.owns ≡ true → v.waits ≡ false → v.serves ≡ false
       → serving_word s ≡ ticket_word s → (new : ℕ) → new ≡ ticket_word s + 1 → new < 2 ^ 64
@@ -415,14 +415,14 @@ module _ {M X C R : Type 0} (view_of : M → X) (goes : X → C → R → X → 
     shares = sharing.begins o;
   }
 
-  -- where a pass has the whole right, who holds a number is this pass
+  -- if a pass has the whole right, who holds a number is this pass
   held_by_me : (s : St) (r : Rule s) (me : ℕ) (v : V) → get_elem? s.views me ≡ some v
       → IsWhole v.share → (n : ℕ) → HasHolder s.views n → HoldsNumber v n
   held_by_me s r me v at whole n (i, u, here, owns, holds) = dite (ℕ_discrete i me)
       (λ (same : i ≡ me). subst (λ (z : V). HoldsNumber z n) (same_at s.views me u v (subst (λ k. get_elem? s.views k ≡ some u) same here) at) holds)
       (λ (other : i ≢ me). absurd (sharing.only_one s.views r.shares me i v u at whole here owns other))
 
-  -- at the end, where every ticket was served, the machine is at home
+  -- at the end, if every ticket was served, the machine is at home
   pub closes : (me : ℕ) (v : V) (ws : List ℕ) (xs : List (Option H)) → IsPass goes v
       → Final (Seen Rule me v) ws xs → get_or ws 0 0 ≡ get_or ws 1 0 → (x : Option H)
       → get_elem? xs 0 ≡ some x
@@ -455,7 +455,7 @@ module _ {M X C R : Type 0} (view_of : M → X) (goes : X → C → R → X → 
       let below = (tickets.away_below s r.turns (r.turns.taker (serving_word s)) a.0 a.2 a.3).0 in absurd (omega arith))
       r.turns.home
 
-  -- at the end, where a pass that does not wait has the whole right, every ticket was served
+  -- at the end, if a pass that does not wait has the whole right, every ticket was served
   pub even_at_end : (me : ℕ) (v : V) (ws : List ℕ) (xs : List (Option H)) → v.waits ≡ false
       → IsWhole v.share → Final (Seen Rule me v) ws xs → get_or ws 0 0 ≡ get_or ws 1 0
   even_at_end me v ws xs idle whole last =

@@ -218,8 +218,8 @@ fn machine_of<M: Machine>(slot: Option<CellContents<M, M::Call, M::Reply>>) -> M
 }
 
 // The result of closing a turn, from the two words of its table and the contents of the slot: the
-// machine where each taken ticket was served, and otherwise these words. A machine in the slot is
-// then dropped.
+// machine if each taken ticket was served, and otherwise these words. A machine in the slot is then
+// dropped.
 fn opened<M: Machine + Drop>(ticket: u64, serving: u64, slot: MachineCell<M>) -> Result<M, Busy>
     requires home { ticket ≡ serving → (h : CellContents M M.Call M.Reply) × (slot ≡ Some h) }
     ensures machine { IfOk result (λ m. (h : CellContents M M.Call M.Reply)

@@ -27,7 +27,7 @@ const NAPS: u32 = 16;
 // How often a caller without a ticket polls. Then it takes one anyway.
 const LOOKS: u32 = SPINS + NAPS;
 
-// The first sleep of a caller between two polls, in microseconds, where the serving word has not
+// The first sleep of a caller between two polls, in microseconds, if the serving word has not
 // changed.
 const NAP: u64 = 50;
 
@@ -57,7 +57,7 @@ fn pause<M: Machine, R: Wait>(rt: &R, shared: &SharedTable<M>, served: u64, look
     }
 }
 
-// The ticket to try for, where the ticket word was seen to be `next`. The last number is no ticket:
+// The ticket to try for, after the ticket word was seen to be `next`. The last number is no ticket:
 // then it is 0, with which the exchange fails and finds the last number. A peek is no step at the
 // table, so it proves nothing; the exchange is one, and from it the seat gets its mark.
 fn tried_for(next: u64) -> u64
@@ -66,7 +66,7 @@ fn tried_for(next: u64) -> u64
     if next == u64::MAX { 0 } else { next }
 }
 
-// Takes the next ticket and the machine, where the turn is free at once. It does not wait.
+// Takes the next ticket and the machine, if the turn is free at once. It does not wait.
 //
 // The serving word never falls, and is never greater than the ticket word. So a ticket that was
 // seen to be served is served when it is taken, and no look follows. A ticket word that is not equal

@@ -19,7 +19,7 @@ use Rattle.warm_world.proofs.Worlds.{shown_at, world, world_stays}
 
 module _ {A : Type 0} (f : A → ReplicaView) (xs : List A) (messages : List (List ℕ)) (k : ℕ)
     (x y : A) where
-  -- where the replica's node shows what it showed, so does the world
+  -- if the replica's node shows what it showed, so does the world
   pub same_if : {T E : Type 0} (result : Result T E) → k < length xs → x ≡ get_or xs k x
       → (f y).buffers ≡ (f x).buffers → OnOk result ((f y).node ≡ (f x).node)
       → OnOk result (world f xs messages (set xs k y) ≡ world f xs messages xs)
@@ -41,7 +41,7 @@ module _ {A : Type 0} (f : A → ReplicaView) (xs : List A) (messages : List (Li
         ∙ ap (λ (r : ReplicaView). with_pool r (f y).node.pool) (sym (shown_at f xs k x other lt is))));
   } in (fails, refl)
 
-  -- where writing back has failed, it has for this replica
+  -- if writing back has failed, it has failed for this replica
   pub fails_if : {T : Type 0} (result : Result T NodeFault) → k < length xs → x ≡ get_or xs k x
       → (f y).buffers ≡ (f x).buffers
       → IfErr result (λ why. (why ≡ Pool Fault) × OnPool IsFailed (f x).node (f y).node)
@@ -50,7 +50,7 @@ module _ {A : Type 0} (f : A → ReplicaView) (xs : List A) (messages : List (Li
   fails_if (Ok done) lt is alike did = tt
   fails_if (Err why) lt is alike did = (did.0, failed lt is alike did.1)
 
--- the nodes up to this one are settled where those before it were, and it is
+-- the nodes up to this one are settled if those before it were, and it is
 module _ {A : Type 0} (g : A → NodeState) (xs : List A) (k : ℕ) (y : A) where
   settled_next : k < length xs → AreSettledBefore k (map g xs) → IsSettled (g y).pool
       → AreSettledBefore (k + 1) (set (map g xs) k (g y))

@@ -1,4 +1,4 @@
--- Two lists stay related place by place where one element of each changes, or one is added to each.
+-- Two lists stay related place by place if one element of each changes, or one is added to each.
 use Rattle.std.proofs.Common.{◌≡◌, ℕ, suc, ◌-◌, ◌<◌, get_or, subst, List, [], ◌∷◌, ◌++◌, length, map, refl, sym, ◌∙◌, inl, inr, arith}
 use Rattle.std.proofs.Math.ListN.{set, get_or-append}
 use Rattle.std.proofs.lemmas.List.{get_or-append_right, get_or-map, length-map, get_or-set_same, get_or-set_other, length-set, length-append}
@@ -53,7 +53,7 @@ Pairwise-map {A} {B} R f g (x ∷ xs) (y ∷ ys) same all =
 pub Pairwise-nil : {A B : Type 0} (R : ℕ → A → B → Type 0) → Pairwise R [] []
 Pairwise-nil R = record { same_length = refl; each = λ i a b lt. absurd (omega (arith, lt)) }
 
--- one list related after another, where the relation does not depend on the place
+-- one list after another is related, if the relation does not depend on the place
 pub Pairwise-append : {A B : Type 0} (R : A → B → Type 0) (xs ys' : List A) (ys zs : List B)
     → Pairwise (λ _ a b. R a b) xs ys → Pairwise (λ _ a b. R a b) ys' zs
     → Pairwise (λ _ a b. R a b) (xs ++ ys') (ys ++ zs)

@@ -72,7 +72,7 @@ gave_back b b' x y result is taken full = elim (cases_lt (length b.refs) b.capac
       (many, (full many).1, ap given (sym is ∙ (full many).0))
 ]
 
--- what holds at a fault holds where a `?` passes the fault on
+-- what holds at a fault holds if a `?` passes the fault on
 pub passed_on : {T E : Type 0} (r : Result T E) (e : E) (P : E → Type 0) → IsErrAnd r (λ y. y ≡ e)
     → P e → IfErr r P
 passed_on (Ok x) e P is p = tt

@@ -74,7 +74,7 @@ module _ {A : Type 0} (f : A → ReplicaView) (xs : List A) (messages : List (Li
   abbrev pub world : List A → WorldView
   world ys = record { replicas = map f ys; messages = messages }
 
-  -- where the replica at an index shows what it showed, so does the world
+  -- if the replica at an index shows what it showed, so does the world
   pub world_stays : (k : ℕ) (x y : A) → k < length xs → x ≡ get_or xs k x → f y ≡ f x
       → world (set xs k y) ≡ world xs
   world_stays k x y lt is same = ap (λ (rs : List ReplicaView). let w : WorldView = record { replicas = rs; messages = messages } in w)
