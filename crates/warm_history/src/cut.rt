@@ -1,4 +1,4 @@
-//! What a cut at a horizon leaves of a history: the entries of a bucket, where older stamps are
+//! What a cut at a horizon leaves of a history: the entries of a bucket, of which older stamps are
 //! skipped as they are read, and the buckets that it would change. The history is unchanged.
 ghost use Rattle.std.specs.Prelude.{◌≡◌, ◌↔◌, IfOk, IsTrue};
 ghost use Rattle.std.specs.Iterator.{YieldsFirst};

@@ -21,7 +21,7 @@ at_each P ns i m lt new old k = cases (nat_eq k i) refl
         let other : k ≢ i = λ e. let no : true ≡ false = sym (eq-eqb k i e) ∙ is in absurd (cc) in
         subst (P k) (sym (get_or-set_other ns i k m no_shard other)) (old k other)
 
--- where each is a shard with one id and one horizon, all are the shards of a replica
+-- if each is a shard, and all have one id and one horizon, they are the shards of a replica
 pub all_shards : (number latest : ℕ) (ns : List NodeState) → IsShardCount (length ns) → 0 < length ns
     → ((i : ℕ) → i < length ns → IsShard (length ns) number latest i (shard_at ns i))
     → AreShards ns
