@@ -284,7 +284,7 @@ int warm_bytes(warm *handle, warm_slot slot, const uint8_t **bytes);
 int warm_bytes_mut(warm *handle, warm_slot slot, uint8_t **bytes);
 
 /* Makes the slot's page dirty, after writing by a pointer and before its latch is released, also
-   where it is called again after WARM_BUSY.
+   if it is called again after WARM_BUSY.
    Refused: WARM_STALE_SLOT. */
 int warm_mark_dirty(warm *handle, warm_slot slot);
 
