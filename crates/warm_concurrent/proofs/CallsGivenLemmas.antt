@@ -31,8 +31,8 @@ use Rattle.warm_concurrent.specs.Answering.{AnswerFails, AnswersPart, OfferFails
 use Rattle.warm_concurrent.specs.Gossip.{DigestsStop, ReceiveStops, RequestStops}
 use Rattle.warm_concurrent.specs.Whole.{AbsorbFails, Does, RaiseFails, RaisesFirst, TakeFails, history_message, part_call}
 use Rattle.warm_concurrent.proofs.GivenLemmas.{EachGives, Gives, absorbed_each, all_given, answer_gives, as_given, gathered_each, given_as, given_by_sum, given_none, given_then, gives_as, gives_called, gives_none, message_each, none_twice, raised_each, taken_each}
-use Rattle.warm_concurrent.proofs.LawsHold.{below}
-use Rattle.warm_concurrent.proofs.Sets.{none_union, same_self, sum, union_none}
+use Rattle.warm_concurrent.proofs.LawLemmas.{below}
+use Rattle.warm_concurrent.proofs.ReferenceSetLemmas.{none_union, same_self, sum, union_none}
 
 -- ---- calls of one shard
 

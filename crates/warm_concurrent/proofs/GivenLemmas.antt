@@ -25,8 +25,8 @@ use Rattle.warm_shard_machine.specs.Laws.{Log}
 use Rattle.warm_concurrent.specs.Gossip.{Compares, ShardsReceive, ShardsTakeDigests, ShardsTakeRequest}
 use Rattle.warm_concurrent.specs.Laws.{all_of}
 use Rattle.warm_concurrent.specs.Whole.{AbsorbsFirst, AbsorbsPart, First, RaisesFirst, RaisesShard, TakesFirst, TakesPart, part_call}
-use Rattle.warm_concurrent.proofs.Places.{push_each}
-use Rattle.warm_concurrent.proofs.Sets.{all_of_push, gave_append, sum, sum_is, union_none}
+use Rattle.warm_concurrent.proofs.ListLemmas.{push_each}
+use Rattle.warm_concurrent.proofs.ReferenceSetLemmas.{all_of_push, gave_append, sum, sum_is, union_none}
 
 -- ---- one pass
 

@@ -163,7 +163,7 @@ impl<D: PageDevice + Send> SharedShards<D> {
     /// # Errors
     /// In this order: `PinsHeld`, if this thread's count of pins is not 0; `Node(Memory)`, if an
     /// allocation fails. Nothing has changed, and both are given back.
-    #[tactic(auto, using(crate::proofs::ClosePins::closes_unpinned))]
+    #[tactic(auto, using(crate::proofs::ClosedPinLemmas::closes_unpinned))]
     pub fn close(
         self,
         alloc: Global,

@@ -20,7 +20,7 @@ use Rattle.warm_rank.specs.Keys.{rank_key, key_cmp}
 use Rattle.warm_rank.specs.Ranking.{eviction_cmp, IsBefore, hottest_pages}
 use Rattle.warm_rank.proofs.KeyLemmas.{keys_order_pages}
 use Rattle.warm_rank.proofs.EvictionLemmas.{eviction_order}
-use Rattle.warm_rank.proofs.Outranked.{all_has, contains_has, has_contains, has_take}
+use Rattle.warm_rank.proofs.OutrankedLemmas.{all_has, contains_has, has_contains, has_take}
 
 -- ---- which pages a warm-up list has
 

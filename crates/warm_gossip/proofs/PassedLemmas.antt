@@ -18,7 +18,7 @@ use Rattle.warm_rank.specs.Keys.{ranked_page}
 use Rattle.warm_rank.specs.Ranking.{IsBefore, eviction_cmp, hottest_pages}
 use Rattle.warm_rank.specs.Relisting.{AreHottest, RaisesOnly, WereHottest}
 use Rattle.warm_rank.proofs.EvictionLemmas.{eviction_is_order, eviction_order}
-use Rattle.warm_rank.proofs.Outranked.{all_has, contains_has}
+use Rattle.warm_rank.proofs.OutrankedLemmas.{all_has, contains_has}
 use Rattle.warm_rank.proofs.RaisedLemmas.{hottest_now, hottest_still, raises_both}
 use Rattle.warm_pool.specs.declared.slot.Placed.{Placed}
 use Rattle.warm_pool.specs.declared.slot.Slot.{Slot}

@@ -18,7 +18,7 @@ use Rattle.warm_history.specs.Histories.{HistoryView, IsHistory, history_of_entr
 use Rattle.warm_history.proofs.HistoryLemmas.{hist_refs-history, references-refs}
 use Rattle.warm_rank.specs.Keys.{rank_key}
 use Rattle.warm_rank.specs.Relisting.{RaisesOnly}
-use Rattle.warm_rank.proofs.Outranked.{contains_has, has_contains, has_either}
+use Rattle.warm_rank.proofs.OutrankedLemmas.{contains_has, has_contains, has_either}
 use Rattle.warm_rank.proofs.RaisedLemmas.{raises_alike, raises_more, taking_in_raises}
 use Rattle.warm_frame_table.specs.Frames.{nth_frame}
 use Rattle.warm_pool.specs.Refreshing.{AgreeOutside}

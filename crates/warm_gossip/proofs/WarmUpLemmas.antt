@@ -21,13 +21,13 @@ use Rattle.warm_history.specs.Histories.{HistoryView, StandsFor, pages}
 use Rattle.warm_rank.specs.Laws.{pages_in}
 use Rattle.warm_rank.specs.Ranking.{IsVictim, eviction_cmp, hottest_pages}
 use Rattle.warm_rank.proofs.EvictionLemmas.{truncation_keeps_order}
-use Rattle.warm_rank.proofs.Outranked.{has_contains}
+use Rattle.warm_rank.proofs.OutrankedLemmas.{has_contains}
 use Rattle.warm_rank.proofs.RaisedLemmas.{differs}
 use Rattle.warm_pool.specs.declared.slot.Slot.{Slot}
 use Rattle.warm_pool.specs.State.{PoolState, IsPool}
 use Rattle.warm_pool.specs.View.{PoolView, FrameView, frame_at, is_page, HasPage, IsResident, IsAbsent, IsUnfixed, unfixed_page, unfixed_pages, view_of}
 use Rattle.warm_pool.specs.Pinning.{HasNoFreeFrame, PutsIn}
-use Rattle.warm_pool.proofs.Bytes.{page_found, found_page, frame_seen}
+use Rattle.warm_pool.proofs.PageByteLemmas.{page_found, found_page, frame_seen}
 use Rattle.warm_gossip.specs.declared.call.Call.TheVariants.{WarmStep}
 use Rattle.warm_gossip.specs.declared.call.Reply.TheVariants.{Loaded, Refused}
 use Rattle.warm_gossip.specs.State.{NodeView}

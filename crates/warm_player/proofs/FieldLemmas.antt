@@ -8,8 +8,8 @@ use Rattle.warm_player.specs.Text.{split, words, has_bytes}
 use Rattle.warm_player.specs.Fields.{◌>>=◌, number_up_to, page_of_word, page_of_parts, slot_of_word, slot_of_parts, number_field, page_field, after_field, slot_field}
 use Rattle.warm_player.specs.TextHeads.{after_digits, head_number, behind, words_behind, head_page}
 use Rattle.warm_player.specs.TextHeads.{head_slot}
-use Rattle.warm_player.proofs.Words.{first_word, word_then, words_later, number_end}
-use Rattle.warm_player.proofs.Numbers.{digit_value}
+use Rattle.warm_player.proofs.NumberWordLemmas.{first_word, word_then, words_later, number_end}
+use Rattle.warm_player.proofs.NumberLemmas.{digit_value}
 use Rattle.warm_player.proofs.NumberPairLemmas.{two_of, pair_end}
 
 -- the words of a text that begins with no space

@@ -19,9 +19,9 @@ use Rattle.warm_pool.specs.Unchanged.{KeepsContents}
 use Rattle.warm_pool.specs.WritingBack.{WritesBack, cleaned_selected}
 use Rattle.warm_pool.specs.Retiring.{Emptied, emptied}
 use Rattle.warm_pool.specs.steps.Retiring.{AreUnfixed}
-use Rattle.warm_pool.proofs.Bytes.{bytes_nowhere, where_is, contents_seen, device_seen, frame_seen}
+use Rattle.warm_pool.proofs.PageByteLemmas.{bytes_nowhere, where_is, contents_seen, device_seen, frame_seen}
 use Rattle.warm_pool.proofs.PoolLemmas.{pool_from, stored_honest}
-use Rattle.warm_pool.proofs.Loads.{contents_absent}
+use Rattle.warm_pool.proofs.LoadLemmas.{contents_absent}
 use Rattle.warm_pool.proofs.ClosingLemmas.{clean_each, nth_page}
 use Rattle.warm_pool.proofs.SettleLemmas.{down_view}
 

@@ -18,7 +18,7 @@ use Rattle.warm_pool.specs.WritingBack.{clean_if, cleaned_selected}
 use Rattle.warm_pool.specs.steps.Retiring.{IsFixedIn, AreUnfixed}
 use Rattle.warm_pool.specs.Forgetting.{AreUnfixedFrom, Forgets, IsFixedFrom}
 use Rattle.warm_pool.specs.steps.Forgetting.{selected_cleaned}
-use Rattle.warm_pool.proofs.Bytes.{bytes_nowhere, contents_seen, device_seen, frame_seen, page_found}
+use Rattle.warm_pool.proofs.PageByteLemmas.{bytes_nowhere, contents_seen, device_seen, frame_seen, page_found}
 use Rattle.warm_pool.proofs.PoolLemmas.{pool_from}
 use Rattle.warm_pool.proofs.ClosingLemmas.{clean_more}
 use Rattle.warm_pool.proofs.EmptyLemmas.{nth_vacated, vacated_pool, vacated_ranked, becomes_empty}

@@ -12,7 +12,7 @@ use Rattle.warm_pool.specs.View.{view_of, Holds}
 use Rattle.warm_pool.specs.Lending.{relent_pool}
 use Rattle.warm_pool.specs.Laws.{IsWrittenWhole}
 use Rattle.warm_pool.proofs.PoolLemmas.{pool_from, held_there, held_some}
-use Rattle.warm_pool.proofs.Writes.{overwritten, write_pool, write_dirty, write_ranked, write_view}
+use Rattle.warm_pool.proofs.WriteLemmas.{overwritten, write_pool, write_dirty, write_ranked, write_view}
 
 append_nothing : (xs ys : List ℕ) → length ys ≡ 0 → xs ++ ys ≡ xs
 append_nothing xs [] none = append-nil xs

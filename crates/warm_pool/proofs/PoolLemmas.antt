@@ -15,7 +15,7 @@ use Rattle.warm_pool.specs.State.{PoolState, IsPool, RankedBy, no_device, nth_de
 use Rattle.warm_pool.specs.View.{stored, contents_of, frame_view, device_view, view_of, PoolView, FrameView, Holds, frame_at}
 use Rattle.warm_pool.specs.WritingBack.{KeptDevices}
 use Rattle.warm_pool.specs.Pinning.{unpinned}
-use Rattle.warm_pool.proofs.Bytes.{bytes_alike, bytes_kept, contents_same, frame_seen}
+use Rattle.warm_pool.proofs.PageByteLemmas.{bytes_alike, bytes_kept, contents_same, frame_seen}
 
 -- a frame that may be at index i of a pool
 pub record Fits (s : PoolState) (i : ℕ) (g : FrameState) : Type 0 where

@@ -17,7 +17,7 @@ use Rattle.warm_pool.specs.View.{is_page, frame_view, view_of, PoolView, FrameVi
 use Rattle.warm_pool.specs.Unchanged.{KeepsBytes}
 use Rattle.warm_pool.specs.Refreshing.{AgreeOutside, UpdatesNamedRanks}
 use Rattle.warm_pool.specs.steps.Refreshing.{UpdatesRank, UpdatesRankIn}
-use Rattle.warm_pool.proofs.Bytes.{page_found, found_page}
+use Rattle.warm_pool.proofs.PageByteLemmas.{page_found, found_page}
 use Rattle.warm_pool.proofs.UnchangedLemmas.{same_bytes, more_bytes}
 use Rattle.warm_pool.proofs.PoolLemmas.{IsAlike, pool_from, step_pool, step_view}
 

@@ -29,7 +29,7 @@ use Rattle.warm_rank.specs.Keys.{rank_key, key_cmp, ranked_page}
 use Rattle.warm_rank.specs.Relisting.{AreHottest, RaisesOnly, WereHottest, candidates, greatest_keys, is_among, keys_of_others, named_keys}
 use Rattle.warm_rank.specs.WarmUp.{IsWarmUp, entry_keys}
 use Rattle.warm_rank.proofs.KeyLemmas.{derived-key_cmp, key_order}
-use Rattle.warm_rank.proofs.Outranked.{contains_has, has_contains, same_item}
+use Rattle.warm_rank.proofs.OutrankedLemmas.{contains_has, has_contains, same_item}
 use Rattle.warm_rank.proofs.RaisedLemmas.{raises_more}
 use Rattle.warm_rank.proofs.RelistLemmas.{candidates_suffice}
 use Rattle.warm_rank.proofs.SortLemmas.{descending_reverse}

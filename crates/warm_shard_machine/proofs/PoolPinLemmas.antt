@@ -18,7 +18,7 @@ use Rattle.warm_pool.specs.Retiring.{RetireRefused, Retired, emptied}
 use Rattle.warm_pool.specs.State.{IsPool, PoolState}
 use Rattle.warm_pool.specs.View.{FrameView, Holds, PoolView, frame_at, frame_view, view_of}
 use Rattle.warm_pool.specs.Zeroing.{PinnedZeroed}
-use Rattle.warm_pool.proofs.Bytes.{frame_seen}
+use Rattle.warm_pool.proofs.PageByteLemmas.{frame_seen}
 use Rattle.warm_gossip.specs.declared.call.Call.{Call}
 use Rattle.warm_gossip.specs.declared.call.Call.TheVariants.{Absorb, Send, Offer, Receive, Horizon, Pin, Unpin, Read, Write, Victim, WarmList, WarmStep, Restart}
 use Rattle.warm_gossip.specs.declared.call.Reply.{Reply}

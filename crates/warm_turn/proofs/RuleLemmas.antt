@@ -22,10 +22,10 @@ use Rattle.warm_turn.specs.CallHistories.{settled}
 use Rattle.warm_turn.specs.Rule.{HasHolder, ticket_word, serving_word, IsQueued, InTurn, IsRecorded, OneHistory, IsShared, TicketRuleHolds, AreWords}
 use Rattle.warm_turn.specs.Shares.{IsWhole}
 use Rattle.warm_turn.specs.Steps.{waiting, glancing, server, after_call, glanced, forgot, seized, took, looked, passed, caught_up, came, became_pass}
-use Rattle.warm_turn.proofs.Lists.{off, never, now_at, same_at, same_carried, IsPrefix-self, IsPrefix-length}
-use Rattle.warm_turn.proofs.Tickets as tickets
-use Rattle.warm_turn.proofs.Histories as histories
-use Rattle.warm_turn.proofs.Histories.{StaysPass}
+use Rattle.warm_turn.proofs.ListLemmas.{off, never, now_at, same_at, same_carried, IsPrefix-self, IsPrefix-length}
+use Rattle.warm_turn.proofs.TicketLemmas as tickets
+use Rattle.warm_turn.proofs.HistoryLemmas as histories
+use Rattle.warm_turn.proofs.HistoryLemmas.{StaysPass}
 use Rattle.warm_turn.proofs.WeightLemmas as sharing
 
 module _ {M X C R : Type 0} (view_of : M → X) (goes : X → C → R → X → Type 0) (o : X) where

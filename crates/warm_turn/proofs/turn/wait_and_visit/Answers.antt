@@ -1,7 +1,7 @@
 use Rattle.std.proofs.Common.{sym, subst}
 use Rattle.warm_turn.specs.CallHistories.{IsPass}
 use Rattle.warm_turn.proofs.PassLemmas.{marked_is_pass}
-use Rattle.warm_turn.proofs.Seats.{called_from, took_unmarked, was_pass}
+use Rattle.warm_turn.proofs.SeatLemmas.{called_from, took_unmarked, was_pass}
 use Rattle.warm_turn.proofs.turn.wait_and_visit.Goals as goal
 
 pub visit_later-output-requires-clause-pass : goal.visit_later-output-requires-clause-pass
