@@ -7,7 +7,7 @@ use Rattle.warm_stamps.specs.declared.Reference.{Reference}
 use Rattle.warm_history.specs.ReferenceSets.{ReferenceSet, set_of_list, ◌∪◌}
 use Rattle.warm_history.specs.References.{IsIn}
 use Rattle.warm_history.specs.Histories.{references_of}
-use Rattle.warm_turn.specs.CallHistories.{marked}
+use Rattle.warm_turn.specs.CallHistories.{as_spent}
 use Rattle.warm_peer.specs.Answers.{refs_in}
 use Rattle.warm_shards.specs.Parts.{part_of_batch}
 use Rattle.warm_shards.specs.Shards.{of_first_shards, of_shard, shard_of}
@@ -87,7 +87,7 @@ called_given old new i c r lt answered =
 
 -- ---- a call that gave nothing
 
-gives_spent : (old new : ShardPass) → new.view ≡ marked old.view → Gives (set_of_list []) old new
+gives_spent : (old new : ShardPass) → new.view ≡ as_spent old.view → Gives (set_of_list []) old new
 gives_spent old new is = (
   [],
   record {

@@ -4,7 +4,7 @@ use Rattle.std.proofs.Common.{◌≡◌, ℕ, zero, suc, ◌*◌, ◌<◌, List,
 use Rattle.std.proofs.Math.Nat.{mul-pos}
 use Rattle.warm_turn.specs.declared.fault.Busy.{Busy}
 use Rattle.warm_turn.specs.declared.table.Share.{Share}
-use Rattle.warm_turn.specs.CallHistories.{marked}
+use Rattle.warm_turn.specs.CallHistories.{as_spent}
 use Rattle.warm_turn.specs.Shares.{AsLarge, both, half, no_share, whole_share}
 use Rattle.warm_turn.proofs.ShareLemmas.{AsLarge-both, AsLarge-self, AsLarge-trans, both_assoc}
 use Rattle.warm_gossip.specs.State.{NodeState}
@@ -28,7 +28,7 @@ same_self p = refl
 same_got : (p q : ShardPass) (c : ShardCall) (r : ShardReply) → Got p.view c r q.view → SameShare p q
 same_got p q c r got = got.share
 
-same_spent : (p q : ShardPass) → q.view ≡ marked p.view → SameShare p q
+same_spent : (p q : ShardPass) → q.view ≡ as_spent p.view → SameShare p q
 same_spent p q is = ap (λ (v : Known). v.share) is
 
 each_keeps : (old new : List ShardPass)

@@ -6,7 +6,7 @@ use mathlib.Core.List.{IsPrefix}
 use Rattle.warm_history.specs.ReferenceSets.{◌∪◌}
 use Rattle.warm_history.specs.Histories.{history, references_of}
 use Rattle.warm_history.proofs.JoinLemmas.{history_first, history_second}
-use Rattle.warm_turn.specs.CallHistories.{marked}
+use Rattle.warm_turn.specs.CallHistories.{as_spent}
 use Rattle.warm_turn.proofs.PassLemmas.{Extended-called, Widened-joined}
 use Rattle.warm_frames.specs.declared.message.Message.{Message}
 use Rattle.warm_stamps.specs.declared.Reference.{Reference}
@@ -46,10 +46,10 @@ below (suc a) zero = inr (omega arith)
 below (suc a) (suc b) = elim (below a b) [ inl lt ↦ inl (omega (arith, lt)) | inr le ↦ inr (omega (arith, le)) ]
 
 -- A relation that holds of each pass and itself, and of a pass before and after a call, and before and
--- after it is marked. So it holds of all passes of a thread, before and after each call of shards.
+-- after it is spent. So it holds of all passes of a thread, before and after each call of shards.
 module _ (P : ShardPass → ShardPass → Type 0) (self : (p : ShardPass) → P p p)
     (got : (p q : ShardPass) (c : ShardCall) (r : ShardReply) → Got p.view c r q.view → P p q)
-    (spent : (p q : ShardPass) → q.view ≡ marked p.view → P p q) where
+    (spent : (p q : ShardPass) → q.view ≡ as_spent p.view → P p q) where
   abbrev pub EachIsSo : List ShardPass → List ShardPass → Type 0
   EachIsSo old new = (length new ≡ length old) × ((i : ℕ) → P (shard_pass old i) (shard_pass new i))
 
@@ -121,8 +121,8 @@ module _ (P : ShardPass → ShardPass → Type 0) (self : (p : ShardPass) → P 
 prefix_self : {A : Type 0} (xs : List A) → IsPrefix xs xs
 prefix_self xs = ([], append-nil xs)
 
--- a mark leaves what was seen
-seen_spent : (p q : ShardPass) → q.view ≡ marked p.view → IsPrefix p.view.seen q.view.seen
+-- what was seen stays once a pass is spent
+seen_spent : (p q : ShardPass) → q.view ≡ as_spent p.view → IsPrefix p.view.seen q.view.seen
 seen_spent p q is =
     subst (λ (v : Known). IsPrefix p.view.seen v.seen) (sym is) (prefix_self p.view.seen)
 

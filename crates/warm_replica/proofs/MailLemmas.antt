@@ -5,8 +5,8 @@ use Rattle.std.specs.Iterator.{Yields}
 use Rattle.warm_machine.specs.declared.operation.Operation.{Operation}
 use Rattle.warm_turn.specs.declared.table.View.{View}
 use Rattle.warm_machine.specs.Runs.{operation}
-use Rattle.warm_turn.specs.CallHistories.{marked, Called, Extended}
-use Rattle.warm_turn.proofs.PassLemmas.{Extended-self, Extended-marked, Extended-trans, Extended-called}
+use Rattle.warm_turn.specs.CallHistories.{as_spent, Called, Extended}
+use Rattle.warm_turn.proofs.PassLemmas.{Extended-self, Extended-spent, Extended-trans, Extended-called}
 use Rattle.warm_frames.specs.declared.message.Message.{Message}
 use Rattle.warm_frames.specs.Encoding.{Encodes}
 use Rattle.warm_frames.specs.declared.fault.FrameFault.{FrameFault}
@@ -159,14 +159,14 @@ module _ {X : Type 0} (keeps : Bool) where
   }
 
   pub heard_unserved : (v w : View X Call Reply) (a : List AddressedBytes) (bytes : List ℕ)
-      (message : Message) → Encodes bytes message → w ≡ marked v
+      (message : Message) → Encodes bytes message → w ≡ as_spent v
       → Heard keeps v a (Bytes bytes ∷ []) refused_one w a
   heard_unserved v w a bytes message spells is =
       let spent : w.found_last ≡ true = ap (λ (u : View X Call Reply). u.found_last) is in
       record {
         outcomes = unserved ∷ [];
         each = (true, (refl, (message, spells)), spent);
-        calls = Extended-marked v w is;
+        calls = Extended-spent v w is;
         joined = refl;
         refused = refl;
         posts = posts_none keeps a;

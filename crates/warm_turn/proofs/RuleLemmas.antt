@@ -17,7 +17,7 @@ use Rattle.warm_turn.specs.declared.table.View.{View}
 use Rattle.warm_turn.specs.declared.table.CallMade.{CallMade}
 use Rattle.warm_turn.specs.declared.table.CellContents.{CellContents}
 use Rattle.warm_machine.specs.Runs.{operation, Runs}
-use Rattle.warm_turn.specs.CallHistories.{HoldsNumber, nobody, calls_by, IsLast, IsNote, IsPass, first_pass, pass_note, halved, heir_of, numbered, marked, learned, joined}
+use Rattle.warm_turn.specs.CallHistories.{HoldsNumber, nobody, calls_by, IsLast, IsNote, IsPass, first_pass, pass_note, halved, heir_of, numbered, as_spent, learned, joined}
 use Rattle.warm_turn.specs.CallHistories.{settled}
 use Rattle.warm_turn.specs.Rule.{HasHolder, ticket_word, serving_word, IsQueued, InTurn, IsRecorded, OneHistory, IsShared, TicketRuleHolds, AreWords}
 use Rattle.warm_turn.specs.Shares.{IsWhole}
@@ -271,7 +271,7 @@ module _ {M X C R : Type 0} (view_of : M → X) (goes : X → C → R → X → 
       ))
       (λ (miss : t ≢ old). dite (ℕ_discrete (t + 1) (2 ^ 64))
       (λ (most : t + 1 ≡ 2 ^ 64).
-      let w : V = marked v in (
+      let w : V = as_spent v in (
         w,
         keeps,
         tt,

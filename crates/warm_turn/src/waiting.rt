@@ -3,7 +3,7 @@
 //! Both are tried once without waiting, which is enough if nobody else uses the machine. What
 //! polls and sleeps may wait, and each call of a function that may costs a look at a flag.
 ghost use Rattle.std.specs.Prelude.{◌≡◌, ◌+◌, ◌<◌, ◌^◌, true, false, [], IfSome, IfNone, IsTrue};
-ghost use Rattle.warm_turn.specs.CallHistories.{IsPass, marked};
+ghost use Rattle.warm_turn.specs.CallHistories.{IsPass, as_spent};
 ghost use Rattle.warm_turn.specs.Rule.{IsTicketTable};
 ghost use Rattle.warm_turn.specs.Steps.{HasTicket, HasTurn, HasMachine};
 
@@ -106,7 +106,7 @@ pub(crate) fn poll_for_ticket<M: Machine, R: Wait>(
     requires idle { IsPass M.goes seat.old.me.0 }
     ensures table { (seat.new.table_id ≡ seat.old.table_id) × (seat.new.id ≡ seat.old.id) }
     ensures some { IfSome result (λ k. HasTicket seat.old.me k seat.new.me) }
-    ensures none { IfNone result (seat.new.me ≡ (marked seat.old.me.0, seat.old.me.1)) }
+    ensures none { IfNone result (seat.new.me ≡ (as_spent seat.old.me.0, seat.old.me.1)) }
 {
     let mut looks = 0;
     for _ in rt.forever() {
