@@ -194,11 +194,11 @@ impl<D: PageDevice + Send> SharedShards<D> {
     /// turn, in the order of the shards. The batch is read once.
     ///
     /// # Errors
-    /// `Node(Memory)` at shard 0: no memory was left for the parts; nothing has changed. Else the
-    /// shards before the number given have absorbed their parts, and the others have not:
-    /// `Node(Memory)`, if that shard had no memory for its part, or `TurnsSpent`. So a batch whose
-    /// pages are all of one shard is absorbed, or nothing has changed. To absorb the batch once
-    /// more does no harm.
+    /// `Node(Memory)` at shard 0: no memory was left for the parts; nothing has changed. Otherwise
+    /// the shards before that of the error have absorbed their parts, and the others have not. The
+    /// error is `Node(Memory)`, if that shard had no memory for its part, or `TurnsSpent`. So a
+    /// batch whose pages are all of one shard is absorbed, or nothing has changed. To absorb the
+    /// batch once more does no harm.
     pub fn absorb<R: Wait>(
         &self,
         rt: &R,
@@ -223,7 +223,7 @@ impl<D: PageDevice + Send> SharedShards<D> {
     /// shards then have: `time`, or later if one had a later horizon. Allocation-free.
     ///
     /// # Errors
-    /// `TurnsSpent`: the shards before the number given have forgotten them, and the others have
+    /// `TurnsSpent`: the shards before that of the error have forgotten them, and the others have
     /// not.
     pub fn raise<R: Wait>(
         &self,

@@ -39,8 +39,8 @@ pub fn threads_give()
 /// The page that a shard names as its victim, and each that leaves it when a page is pinned, looked
 /// at, changed or warmed up, is an unpinned resident page of greatest backward 2-distance, over all
 /// references that the calls of all threads had given the shard until then, not older than its
-/// horizon. So it is in every legal run of the shard's calls, and each call that a thread saw
-/// answered stands in one.
+/// horizon. This holds in every legal run of the shard's calls, and each call that a thread saw
+/// answered is in such a run.
 pub fn shared_victims_are_farthest()
     ensures { SharedVictims }
 {}

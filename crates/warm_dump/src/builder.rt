@@ -22,8 +22,8 @@ const SHARE: usize = 8;
 // A history, and entries that wait until they are joined to it together. Contracts see the history
 // of both.
 //
-// Entries of a bucket of which the history has none become its map at once, if they are joined
-// together: that is faster than message by message, and takes less memory. So they wait while one
+// If the history has no entry of a bucket, entries of it that are joined together become its map at
+// once. That is faster than message by message, and takes less memory. So entries wait while one
 // message continues where the one before it ended. At most [`MAX_ENTRIES`] wait, or an eighth as
 // many as the history has.
 #[derive(Drop)]

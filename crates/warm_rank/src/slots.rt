@@ -66,8 +66,8 @@ impl Contest {
         play_above(&self.keys, &mut self.nodes, slot);
     }
 
-    /// Sets the key of a slot if this one is less than the slot's; no key is the greatest.
-    /// Allocation-free.
+    /// Sets the key of a slot if this one is less than the slot's. A missing key counts as the
+    /// greatest. Allocation-free.
     pub fn lower(&mut self, slot: usize, key: Option<RankKey>)
         requires { slot < length self.old }
         ensures { self.new ≡ lowered key_cmp self.old slot key }
