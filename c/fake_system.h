@@ -171,7 +171,7 @@ static int test_lock(pthread_mutex_t *lock) {
     return pthread_mutex_lock(lock);
 }
 
-/* What a test does once this thread has let a lock go, and has none: after so many others. */
+/* What a test does once this thread has let a lock go, and has none: after this many others. */
 static _Thread_local void (*at_unlock)(void);
 static _Thread_local int unlocks_before;
 

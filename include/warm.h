@@ -160,7 +160,7 @@ typedef struct warm_slot {
    skip this page now, as its latch is held or its log not synced; an errno: the write fails. A
    skipped page stays dirty. Calls that change the page wait for the answer, other calls seldom: so
    it may sync a log.
-   after_write, if not null, is told the error (or 0) of each write that was made, by the thread
+   after_write, if not null, gets the error (or 0) of each write that was made, by the thread
    that asked before_write.
    Any thread that uses the replica may call them, several at once, for different pages.
    Caller: they return, call nothing of this replica, wait for no thread that does, and keep no

@@ -90,7 +90,7 @@ impl Handle {
         result(unsafe { ffi::warm_write_back_all(raw) })
     }
 
-    /// Writes at most so many dirty pages, flushes nothing, and returns how many are left.
+    /// Writes at most this many dirty pages, flushes nothing, and returns how many are left.
     ///
     /// Refused: [`Error::WriteFault`], [`Error::Skipped`].
     pub fn write_back_some(&self, limit: usize) -> Result<usize> {
@@ -190,7 +190,7 @@ impl Handle {
         Ok(horizon)
     }
 
-    /// The hottest pages of the history, hottest first, so many at most.
+    /// The hottest pages of the history, hottest first, this many at most.
     ///
     /// Refused: [`Error::Memory`].
     pub fn list(&self, room: usize) -> Result<Vec<Page>> {
