@@ -1,6 +1,6 @@
 /*
  * fd_calls.c: what the proved part, crates/warm_c, asks of devices, as fd_calls.h says
- * (crates/warm_c/src/descriptor.rt). devices.c and sync_once.c do it. Nothing here is proved;
+ * (crates/warm_c_base/src/descriptor.rt). devices.c and sync_once.c do it. Nothing here is proved;
  * c/check tests it.
  */
 #define _FILE_OFFSET_BITS 64

@@ -7,7 +7,7 @@ use Rattle.warm_concurrent.specs.Attached.{AreOf, IsPassOf, Known, ShardPass, Sh
 use Rattle.warm_concurrent.specs.Opening.{ClosesShard, IsSplit, with_half}
 use Rattle.warm_shard_machine.specs.ShardSteps.{ShardStep}
 use Rattle.warm_concurrent.proofs.PassLemmas.{still_of}
-use Rattle.warm_concurrent.proofs.ListLemmas.{at_each}
+use Rattle.warm_shards.proofs.Places.{at_each}
 
 -- a new pass is of the turn, as the one that it was split off
 pub split_of : (turn t : ShardTurn) (n p : ShardPass) (old : ShardPass) → IsPassOf turn old → t ≡ turn

@@ -24,7 +24,7 @@ use Rattle.warm_concurrent.specs.Copying.{GivesCopy, no_history}
 use Rattle.warm_concurrent.specs.Laws.{OnlySeesMore, OverCalls, SeesMore, TogetherAreOfGiven, all_of, held_by}
 use Rattle.warm_shard_machine.specs.ShardSteps.{ShardStep}
 use Rattle.warm_concurrent.specs.Whole.{AbsorbsPart, Does, First, RaisesShard, TakesPart, part_call}
-use Rattle.warm_concurrent.proofs.ListLemmas.{at_each}
+use Rattle.warm_shards.proofs.Places.{at_each}
 
 pub together_are_of_given : TogetherAreOfGiven
 together_are_of_given [] [] stand = refl

@@ -8,7 +8,7 @@ use Rattle.warm_concurrent.specs.Attached.{AreOf, AreTurns, IsPassOf, KeepsOther
 use Rattle.warm_concurrent.specs.Clauses.{AnsweredByShard, Spent}
 use Rattle.warm_shard_machine.specs.ShardSteps.{MayAnswer, ShardStep, IsOwn, ShardState}
 use Rattle.warm_shard_machine.proofs.ShardStepLemmas.{last_of, own_step, runs_keep}
-use Rattle.warm_concurrent.proofs.ListLemmas.{at_each}
+use Rattle.warm_shards.proofs.Places.{at_each}
 use Rattle.std.proofs.lemmas.Option.{same_Some}
 use Rattle.warm_machine.specs.declared.operation.Operation.{Operation}
 use Rattle.warm_machine.specs.Runs.{Runs, operation}

@@ -5,7 +5,7 @@ use Rattle.std.proofs.lemmas.Bool.{eq-eqb, eqb-true}
 use Rattle.std.proofs.lemmas.List.{length-set}
 use Rattle.warm_concurrent.specs.Attached.{KeepsOtherPasses, ShardPass, no_pass, shard_pass}
 use Rattle.warm_concurrent.specs.Whole.{First}
-use Rattle.warm_concurrent.proofs.ListLemmas.{at_each}
+use Rattle.warm_shards.proofs.Places.{at_each}
 
 module _ (So : ℕ → ShardPass → ShardPass → Type 0) where
   -- no shard

@@ -1,5 +1,5 @@
 -- Calls of the whole: shard by shard, in the order of their numbers.
-use Rattle.std.specs.Prelude.{◌≡◌, ◌≢◌, ◌⊎◌, ℕ, ◌<◌, ◌≤◌, List, [], length, slice_index_or}
+use Rattle.std.specs.Prelude.{◌≡◌, ◌≢◌, ◌⊎◌, ℕ, ◌<◌, ◌≤◌, List, [], length}
 use Rattle.std.specs.Global.{Vec}
 use Rattle.warm_stamps.specs.declared.Reference.{Reference}
 use Rattle.warm_history.specs.Histories.{HistoryView, entries_of}
@@ -7,7 +7,7 @@ use Rattle.warm_frames.specs.declared.message.Message.{Message}
 use Rattle.warm_frames.specs.declared.message.Message.TheVariants.{Entries}
 use Rattle.warm_frames.specs.Limits.{entries_in, horizon_in}
 use Rattle.warm_gossip.specs.declared.fault.NodeFault.TheVariants.{Memory}
-use Rattle.warm_shards.specs.Parts.{part_of_batch, part_of_entries}
+use Rattle.warm_shards.specs.Parts.{AreShardParts, part_of_batch, part_of_entries}
 use Rattle.warm_shard_machine.specs.declared.calls.ShardCall.TheVariants.{Absorb, Raise, TakeIn}
 use Rattle.warm_shard_machine.specs.declared.calls.ShardCall.TheVariants.{WritePages, WriteBack}
 use Rattle.warm_shard_machine.specs.declared.calls.ShardCall.{ShardCall}
@@ -94,10 +94,8 @@ abbrev pub JoinFails : HistoryView → ℕ → SharedFault → List ShardPass �
 JoinFails h k why old new = TakeFails (history_message h) k why old new
 
 -- these are the parts of a batch, of each shard its own
-pub record ArePartsOf (shards : ℕ) (batch : List Reference) (parts : List (Vec Reference)) : Type 0 where
-  pub count : length parts ≡ shards
-  pub each : (i : ℕ) (d : Vec Reference) → i < shards
-      → (slice_index_or parts i d).items ≡ part_of_batch shards i batch
+abbrev pub ArePartsOf : ℕ → List Reference → List (Vec Reference) → Type 0
+ArePartsOf shards batch parts = AreShardParts (λ (r : Reference). r.page) shards batch parts
 
 -- Writing back
 

@@ -1,7 +1,6 @@
 //! The calls that take references in and forget them, shard by shard, and list a shard's hottest
 //! pages.
-ghost use Rattle.std.specs.Prelude.{◌≡◌, ◌<◌, [], length, IfErr, IfOk, OnOk};
-ghost use Rattle.warm_shards.specs.Shards.{IsShardCount};
+ghost use Rattle.std.specs.Prelude.{◌≡◌, ◌<◌, length, IfErr, IfOk, OnOk};
 ghost use Rattle.warm_concurrent.specs.Attached.{AreOf, AreTurns};
 ghost use Rattle.warm_concurrent.specs.Clauses.{CallEnds};
 ghost use Rattle.warm_shard_machine.specs.declared.calls.ShardCall.TheVariants.{Raise, WarmList};
@@ -13,12 +12,12 @@ ghost use Rattle.warm_concurrent.specs.Whole.{RaisesFirst};
 use crate::fault::SharedFault;
 use crate::pool_calls::do_in;
 use crate::shared::{Attached, SharedShards, call_shard};
-use std::alloc::{AllocError, Global};
+use std::alloc::Global;
 use std::sync::Wait;
 use warm_devices::PageDevice;
 use warm_gossip::NodeFault;
 use warm_shard_machine::{Shard, ShardCall, ShardReply};
-use warm_shards::shard_of;
+use warm_shards::parts_of;
 use warm_stamps::{PageList, RefList, Reference};
 use warm_turn::{Pass, Turn};
 
@@ -30,34 +29,6 @@ pub struct Stopped {
     pub fault: SharedFault,
     /// The number of the first shard that has not made its part.
     pub shard: usize,
-}
-
-// The parts of a batch: of each shard its references, in order.
-fn parts_of(
-    alloc: Global,
-    batch: &[Reference],
-    count: usize,
-) -> Result<Vec<Vec<Reference>>, AllocError>
-    requires { IsShardCount count }
-    ensures { IfOk result (λ parts. ArePartsOf count batch.now parts.items) }
-{
-    let mut parts = no_parts(alloc, count)?;
-    for reference in batch {
-        let shard = shard_of(count, reference.page);
-        parts[shard].push(*reference)?;
-    }
-    Ok(parts)
-}
-
-// This many empty parts.
-fn no_parts(alloc: Global, count: usize) -> Result<Vec<Vec<Reference>>, AllocError>
-    ensures { IfOk result (λ parts. ArePartsOf count [] parts.items) }
-{
-    let mut parts = Vec::with_capacity(alloc, count)?;
-    for _shard in 0..count {
-        parts.push_reserved(Vec::new(alloc));
-    }
-    Ok(parts)
 }
 
 // Each shard that has a part absorbs it, in one turn.

@@ -1,25 +1,17 @@
 -- A shard changes: all are still shards.
-use Rattle.std.proofs.Common.{◌≡◌, ◌≢◌, ℕ, ◌<◌, Bool, true, false, List, count_ones, length, set, refl, sym, subst, ◌∙◌, arith}
-use Rattle.std.specs.Prelude.{nat_eq}
-use Rattle.std.proofs.lemmas.Bool.{eq-eqb, eqb-true}
+use Rattle.std.proofs.Common.{◌≡◌, ◌≢◌, ℕ, ◌<◌, List, count_ones, length, set, refl, sym, subst, ◌∙◌, arith}
+use Rattle.std.proofs.lemmas.Bool.{eqb-true}
 use Rattle.std.proofs.lemmas.Nat.{ones_le_self}
-use Rattle.std.proofs.lemmas.List.{get_or-set_other, get_or-set_same, length-set}
+use Rattle.std.proofs.lemmas.List.{length-set}
 use Rattle.warm_gossip.specs.State.{NodeState}
 use Rattle.warm_shards.specs.Shards.{AreShards, IsShard, IsShardCount, no_shard, shard_at}
+use Rattle.warm_shards.proofs.Places.{at_each as changed_at}
 
 -- what is true of the new shard and of the others is true of each
 pub at_each : (P : ℕ → NodeState → Type 0) (ns : List NodeState) (i : ℕ) (m : NodeState)
     → i < length ns → P i m → ((k : ℕ) → k ≢ i → P k (shard_at ns k)) → (k : ℕ)
     → P k (shard_at (set ns i m) k)
-at_each P ns i m lt new old k = cases (nat_eq k i) refl
-  where
-    cases : (b : Bool) → nat_eq k i ≡ b → P k (shard_at (set ns i m) k)
-    cases true is =
-        let same : k ≡ i = eqb-true k i is in
-        subst (λ x. P x (shard_at (set ns i m) x)) (sym same) (subst (P i) (sym (get_or-set_same ns i m no_shard lt)) new)
-    cases false is =
-        let other : k ≢ i = λ e. let no : true ≡ false = sym (eq-eqb k i e) ∙ is in absurd (cc) in
-        subst (P k) (sym (get_or-set_other ns i k m no_shard other)) (old k other)
+at_each P ns i m lt new old k = changed_at P ns i m no_shard lt new old k
 
 -- if each is a shard, and all have one id and one horizon, they are the shards of a replica
 pub all_shards : (number latest : ℕ) (ns : List NodeState) → IsShardCount (length ns) → 0 < length ns

@@ -27,8 +27,9 @@ use Rattle.warm_gossip.specs.Clauses.{Goes}
 use Rattle.warm_gossip.specs.Step.{IsNextWarm, nth_page}
 use Rattle.warm_gossip.proofs.VictimLemmas.{KeepsPages, frames_after}
 use Rattle.warm_shards.specs.Clauses.{KeepPools, SameShards}
-use Rattle.warm_shards.specs.Shards.{AreShards, HoldsPagesOf, IsShard, held, shard_at, shard_of, whole}
+use Rattle.warm_shards.specs.Shards.{AreShards, HoldsPagesOf, IsShard, held, no_shard, shard_at, shard_of, whole}
 use Rattle.warm_shards.proofs.AreShardsLemmas.{all_shards, at_each}
+use Rattle.warm_shards.proofs.Places.{read_at as at_place}
 use Rattle.warm_shards.proofs.Pages.{all_held, all_pages, all_taken, each_has}
 
 -- ---- pools that stay
@@ -198,6 +199,4 @@ absorb_refused n m batch StaleSlot none = absurd none
 -- the shard at an index, as the code reads it
 pub read_at : (ns : List NodeState) (i : ℕ) (n d : NodeState) → i < length ns → n ≡ get_or ns i d
     → n ≡ shard_at ns i
-read_at [] i n d lt is = absurd (omega arith)
-read_at (x ∷ xs) zero n d lt is = is
-read_at (x ∷ xs) (suc i) n d lt is = read_at xs i n d (omega arith) is
+read_at ns i n d lt is = at_place ns i n d no_shard lt is

@@ -7,8 +7,7 @@ use Rattle.std.proofs.lemmas.Bool.{cases_eq, eq-eqb, eqb-true, ne_eqb}
 use Rattle.std.proofs.lemmas.List.{append-nil, get_or-set_other, get_or-set_same, length-set}
 use Rattle.std.proofs.lemmas.List.Elements.{filter-append}
 use Rattle.warm_stamps.specs.declared.PageId.{PageId}
-use Rattle.warm_stamps.specs.declared.Reference.{Reference}
-use Rattle.warm_shards.specs.Parts.{AreShardParts, own_items, part_of_batch}
+use Rattle.warm_shards.specs.Parts.{AreShardParts, own_items}
 use Rattle.warm_shards.specs.Shards.{shard_of}
 
 module _ {A : Type 0} (page : A → PageId) where
@@ -71,12 +70,3 @@ module _ {A : Type 0} (page : A → PageId) where
   other_part count i k [] other all = refl
   other_part count i k (x ∷ xs) other all =
       rw (ne_eqb (shard_of count (page x)) k (λ e. other (sym e ∙ all.0))) (other_part count i k xs other all.1)
-
--- references, for the crate above
-pub part_gains : (count i : ℕ) (rs : List Reference) (r : Reference) → shard_of count r.page ≡ i
-    → part_of_batch count i (rs ++ r ∷ []) ≡ part_of_batch count i rs ++ r ∷ []
-part_gains = gains (λ (r : Reference). r.page)
-
-pub part_stays : (count i : ℕ) (rs : List Reference) (r : Reference) → shard_of count r.page ≢ i
-    → part_of_batch count i (rs ++ r ∷ []) ≡ part_of_batch count i rs
-part_stays = stays (λ (r : Reference). r.page)

@@ -1,4 +1,5 @@
 pub mod Lists
+pub mod Places
 pub mod Pages
 pub mod WholeLemmas
 pub mod PartLemmas

@@ -6,7 +6,7 @@ use test_kit::{history_of_pages, references_to, replica};
 use warm_devices::MemDevice;
 use warm_frames::Message;
 use warm_gossip::NodeFault;
-use warm_shards::Shards;
+use warm_shards::{Shards, parts_of};
 use warm_stamps::Bucket;
 
 pub(crate) type TwoShards = Shards<MemDevice>;
@@ -54,6 +54,20 @@ pub(crate) fn made(met: &mut Met, alloc: Global) -> Result<TwoShards, Ended> {
         Ok(shards) => Ok(shards),
         Err(_) => Err(met.broken("two nodes are no shards")),
     }
+}
+
+// The parts of a batch of pages 0 to 5: three of each shard.
+fn divide(met: &mut Met, alloc: Global) -> Result<(), Ended> {
+    let batch = references_to(alloc, 0, 6, 10)?;
+    let parts = match parts_of(alloc, &batch, 2) {
+        Ok(parts) => parts,
+        Err(_) => {
+            met.count();
+            parts_of(alloc, &batch, 2)?
+        }
+    };
+    let is_divided = parts.len() == 2 && parts[0].len() == 3 && parts[1].len() == 3;
+    met.holds(is_divided, "each shard has its part")
 }
 
 // Pages 0 to 5: three of each shard.
@@ -181,6 +195,7 @@ fn join(met: &mut Met, alloc: Global, shards: &mut TwoShards) -> Result<(), Ende
 
 // All calls on two shards, one after the other.
 pub(crate) fn rows(met: &mut Met, alloc: Global) -> Result<(), Ended> {
+    divide(met, alloc)?;
     let mut shards = made(met, alloc)?;
     absorb(met, alloc, &mut shards)?;
     offer(met, &mut shards)?;

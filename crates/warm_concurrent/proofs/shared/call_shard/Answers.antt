@@ -1,7 +1,7 @@
 use Rattle.std.proofs.Common.{◌≡◌, ◌<◌, length, arith}
 use Rattle.warm_concurrent.specs.Attached.{no_pass, shard_pass}
 use Rattle.warm_concurrent.proofs.PassLemmas.{may}
-use Rattle.warm_concurrent.proofs.ListLemmas.{read_at}
+use Rattle.warm_shards.proofs.Places.{read_at}
 use Rattle.warm_concurrent.proofs.shared.call_shard.Goals as goal
 
 pub returns-clause-may : goal.returns-clause-may

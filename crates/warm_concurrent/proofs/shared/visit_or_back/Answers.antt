@@ -1,7 +1,7 @@
 use Rattle.std.proofs.Common.{◌≡◌, ◌<◌, length, arith}
 use Rattle.warm_concurrent.specs.Attached.{no_pass, shard_pass}
 use Rattle.warm_concurrent.proofs.PassLemmas.{answered, may}
-use Rattle.warm_concurrent.proofs.ListLemmas.{read_at}
+use Rattle.warm_shards.proofs.Places.{read_at}
 use Rattle.warm_concurrent.proofs.shared.visit_or_back.Goals as goal
 
 pub returns-in-Ok-clause-visited : goal.returns-in-Ok-clause-visited

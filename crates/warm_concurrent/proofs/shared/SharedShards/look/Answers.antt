@@ -6,7 +6,7 @@ use Rattle.warm_concurrent.specs.Looking.{LooksAt}
 use Rattle.warm_shard_machine.specs.Visits.{Shows}
 use Rattle.warm_concurrent.proofs.LookLemmas.{is_here, looked}
 use Rattle.warm_concurrent.proofs.PassLemmas.{answered, may}
-use Rattle.warm_concurrent.proofs.ListLemmas.{read_at}
+use Rattle.warm_shards.proofs.Places.{read_at}
 use Rattle.warm_concurrent.proofs.shared.SharedShards.look.Goals as goal
 
 pub unreachable-requires : goal.unreachable-requires
