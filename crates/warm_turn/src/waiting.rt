@@ -59,7 +59,7 @@ fn pause<M: Machine, R: Wait>(rt: &R, shared: &SharedTable<M>, served: u64, look
 
 // The ticket to try for, after the ticket word was seen to be `next`. The last number is no ticket:
 // then it is 0, with which the exchange fails and finds the last number. A peek is no step at the
-// table, so it proves nothing. The exchange is one, and by it alone the seat finds that it is spent.
+// table, so it proves nothing. The exchange is one: by it alone the seat finds that it is spent.
 fn tried_for(next: u64) -> u64
     ensures { result + 1 < 2 ^ 64 }
 {
