@@ -39,7 +39,7 @@ fn is_run(number: u8, entries: &[Entry]) -> bool
     true
 }
 
-// The bucket of which these entries are a run, if they are a run that is worth a walk.
+// The bucket of these entries, if they are a run that is worth a walk.
 pub(crate) fn bucket_of_run(more: &[Entry]) -> Option<Bucket>
     ensures { IfSome result (λ bucket. IsRun bucket more.now) }
 {

@@ -225,8 +225,7 @@ fn is_known(more: Packed, before: Packed) -> bool
     more.is_same(before)
 }
 
-// Adds the value with more stamps, if they change it. It is no part of the walk, as `look_up` is
-// none.
+// Adds the value with more stamps, if they change it. It is a function apart, as `look_up` is.
 #[inline(never)]
 fn add_change(
     changed: &mut Vec<(NearKey, Packed)>,
