@@ -487,11 +487,11 @@ pub extern "C" fn node_next(
     }
 }
 
-/// Writes a frame with entries of a bucket: the first 1000 of those whose latest stamp is not before
-/// the time `since` and, if `has_after`, whose page is greater than `after`. Also writes its length,
-/// how many entries it has, whether more of them follow, 1 or 0, and the page of the last one,
-/// after which to go on. If there is no such entry, `last` is unchanged; so are the buffer and the
-/// length, unless `even_empty`.
+/// Writes a frame with entries of a bucket: the first 1000 of those whose latest stamp is not
+/// before the time `since` and, if `has_after`, whose page is greater than `after`. Also writes its
+/// length, how many entries it has, whether more of them follow, 1 or 0, and the page of the last
+/// one, after which to go on. If there is no such entry, `last` is unchanged; so are the buffer and
+/// the length, unless `even_empty`.
 ///
 /// # Errors
 /// The buffer, `entries`, `more` and `last` are unchanged.

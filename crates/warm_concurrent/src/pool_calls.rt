@@ -413,9 +413,9 @@ impl<D: PageDevice + Send> SharedShards<D> {
 
     /// The page that [`SharedShards::warm_step`] of the shard would load now; `None` if there is
     /// none: one turn of the shard, in which the call `WarmNext` is answered. Nothing is loaded. By
-    /// this a thread warms a shard up, and holds no turn as it reads: it reads this page, pins it by
-    /// [`SharedShards::pin_filled`], and removes the pin. That is the warm-up step, unless another
-    /// call of the shard came in between.
+    /// this a thread warms a shard up, and holds no turn as it reads: it reads this page, pins it
+    /// by [`SharedShards::pin_filled`], and removes the pin. That is the warm-up step, unless
+    /// another call of the shard came in between.
     ///
     /// # Errors
     /// `Node(Memory)`: an allocation failed in the shard. `TurnsSpent`. Nothing has changed in any
