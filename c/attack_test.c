@@ -107,7 +107,7 @@ static void stick(uint16_t dev, uint64_t below) {
 }
 
 /* A handle that is alone reads a page once more, and not once for each page that cannot be written;
- * and not where no other page may leave. */
+ * and not if no other page may leave. */
 static void test_reading_past_stuck(void) {
     for (size_t frames = 1; frames <= STUCK + 1; frames++) {
         warm handle = {0};

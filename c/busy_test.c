@@ -231,7 +231,7 @@ static void test_two_who_want(void) {
     close_all();
 }
 
-/* Where the system does it no more, who gives up a hold is told. */
+/* If the system no longer orders memory, whoever gives up a hold learns that it is to do so. */
 static void test_an_order_refused(void) {
     warm *holder = &callers[2].handle;
     warm_slot slot;

@@ -143,7 +143,7 @@ static ssize_t read_file(int fd, uint8_t *into, size_t length, off_t at) {
         if (got < 0 && errno == EINTR) continue;
         if (got < 0 && errno == EINVAL && done > 0) {
             if (is_end(fd, at + (off_t)done)) got = 0;
-            errno = EINVAL; /* that of pread, also where fstat failed */
+            errno = EINVAL; /* that of pread, even if fstat failed */
         }
         if (got < 0) return -1;
         if (got == 0) {
@@ -168,7 +168,7 @@ static int write_file(int fd, const uint8_t *from, size_t length, off_t at) {
     return 0;
 }
 
-/* fsync fails where a descriptor cannot be synced, as a pipe: then nothing written to it is on a
+/* fsync fails if a descriptor cannot be synced, as a pipe: then nothing written to it is on a
  * device. */
 static int sync_file(int fd) {
     int status;
@@ -246,8 +246,8 @@ ssize_t device_read(int number, uint8_t *into, size_t length, off_t at) {
     return error == 0 ? (ssize_t)length : failed_with(error);
 }
 
-/* A part may have been written, also where a write failed. Without a file nothing was: a sync could
- * but fail, and be remembered for all devices that have no file yet. */
+/* A part may have been written, even if a write failed. Without a file nothing was: a sync could
+ * only fail, and be remembered for all devices that have no file yet. */
 static int write_to_device(
     const own_device *its, int number, uint64_t no, const uint8_t *from, size_t length, off_t at) {
     bool is_own = its->ops.write != NULL;

@@ -19,35 +19,35 @@ enum { DEVICE_IDENTITY = 16, MADE_UP = 1 << 20 };
 static inline bool is_made_up(int number) { return number < INT32_MIN + MADE_UP; }
 
 /* Whether the library can work with a device: its calls are all there, or none; and its descriptor,
- * where it is used, is no made-up number. */
+ * if it is used, is no made-up number. */
 bool device_is_good(const warm_device *device);
 
 /* Whether a write to the descriptor goes to the end of its file, wherever it is to go (O_APPEND).
  * One that is not open, or not used, does not. */
 bool device_appends(const warm_device *device);
 
-/* Writes a number for a good device; false where there is no memory for it, or no number. The
- * device is let go by its number, when nothing is asked of it any more. */
+/* Writes a number for a good device; false if there is no memory for it, or no number. The device
+ * is let go by its number, when nothing is asked of it any more. */
 bool device_add(const warm_device *device, size_t page_size, int32_t *number);
 void device_drop(int32_t number);
 
-/* The number by which syncs of the device are counted: its descriptor where that is synced. */
+/* The number by which syncs of the device are counted: its descriptor if that is synced. */
 int device_synced_as(int number);
 
 /* Reads length bytes from the place at on, with zeros past the end of a file; writes them there;
- * and syncs. Each returns what the system's call does, and -1 with errno where it fails. EAGAIN of
- * a write means that before_write has skipped the page; a call that is made has no such errno. */
+ * and syncs. Each returns what the system's call does, and -1 with errno if it fails. EAGAIN of a
+ * write means that before_write has skipped the page; a call that is made has no such errno. */
 ssize_t device_read(int number, uint8_t *into, size_t length, off_t at);
 ssize_t device_write(int number, const uint8_t *from, size_t length, off_t at);
 int device_sync(int number);
 
-/* A write in two halves, each of which returns 0 or an errno: what before_write says, and, where
- * that is 0, the write, of which after_write is told. */
+/* A write in two halves, each of which returns 0 or an errno: what before_write says, and, if that
+ * is 0, the write, whose errno after_write gets. */
 bool device_asks(int number); /* whether there is a before_write */
 int device_ask(int number, const uint8_t *from, size_t length, off_t at);
 int device_put(int number, const uint8_t *from, size_t length, off_t at);
 
-/* Writes what no two files have in common; false where there is no file. */
+/* Writes what no two files have in common; false if there is no file. */
 bool device_identity(int number, uint8_t into[DEVICE_IDENTITY]);
 
 /* A write that was made by the two halves. */

@@ -1,7 +1,6 @@
 /*
- * Tests devices.c where devices have calls of their own, over fake_library.h. skips_test.c tests
- * pages that such a device skips, and fd_calls_test.c devices that are files.
- */
+ * Tests devices.c with devices that have calls of their own, over fake_library.h. skips_test.c
+ * tests pages that such a device skips, and fd_calls_test.c devices that are files. */
 #include "own_devices.h"
 
 /* ---- numbers ---- */
@@ -167,7 +166,7 @@ static void test_failing_descriptor(void) {
     nothing_left();
 }
 
-/* Where a write has returned its sync is counted before the engine is told; and a write that is not
+/* After a write has returned, its sync is counted before after_write is called. A write that is not
  * made is not counted. */
 static int32_t told_number;
 

@@ -1,8 +1,8 @@
 /*
  * fake_nodes.h: the functions of nodes.h in a few lines of C each, for tests, which have no proved
- * part. A fake node has frames, each with one byte in place of a page, or with more where a test
- * says so, and in place of a history how many references it took in. It writes pages and asks for
- * syncs as the proved part does in the end, by devices.h and sync_once.h. Where it reads a page,
+ * part. A fake node has frames, each with one byte in place of a page, or with more if a test says
+ * so, and in place of a history how many references it took in. It writes pages and asks for syncs
+ * as the proved part does in the end, by devices.h and sync_once.h. When it reads a page,
  * which it does for a handle that is alone, it takes the byte that the file keeps (fake_system.h),
  * or that the device's own call reads. Each call looks whether another call is in the node.
  */
@@ -99,7 +99,7 @@ void node_close(node *of) {
     *of = (node){0};
 }
 
-/* The device is to be flushed afterwards, also where the write fails. */
+/* The device is to be flushed afterwards, even if the write fails. */
 static bool fake_write(fake *its, fake_frame *frame) {
     node_page page = frame->page;
     off_t at = (off_t)(page.no * its->page_size);
@@ -148,10 +148,10 @@ static bool fake_read(const fake *its, node_page page, uint8_t *byte) {
     return (off_t)page.no < unreadable;
 }
 
-/* Whether each page in a frame has as many pins as it can have: where a test says so. */
+/* Whether each page in a frame has as many pins as it can have: if a test says so. */
 static bool pins_are_full;
 
-/* Where no bytes are given, the page is read. */
+/* If no bytes are given, the page is read. */
 static int fake_pin(fake *its, node_page page, const uint8_t *given, node_slot *slot) {
     if (page.dev >= its->device_count) return WARM_NO_DEVICE;
     if (page.no >= FAKE_PAGES) return WARM_NO_PAGE;
@@ -309,7 +309,7 @@ int node_victim(node *of, bool *found, node_page *page) {
     return fake_out(of, WARM_OK);
 }
 
-/* One page for each reference that it knows. It is loaded where it is pinned next. */
+/* One page for each reference that it knows. It is loaded when it is pinned next. */
 int node_next(node *of, bool *found, node_page *page) {
     fake *its = fake_in(of);
     if (!fake_memory()) return fake_out(of, WARM_MEMORY);
@@ -574,7 +574,7 @@ int node_want_frame(uint16_t replica, uint64_t horizon, uint64_t buckets, uint8_
     return status;
 }
 
-/* Entries are of pages of shards 0 and 2, where there are two, and that shard. */
+/* Entries are of pages of shard 0, and of shard 2 too if there are two or more, and that shard. */
 int node_read_frame(size_t shards, uint64_t limit, uint64_t horizon_limit, const uint8_t *frame,
     size_t length, node_frame *what) {
     if (length < 10) return WARM_TRUNCATED;
@@ -608,7 +608,7 @@ int node_differing(
 }
 
 /* Two frames of a bucket of which something is known, of page 1 and of page 2; an empty one of any
- * other, where that is asked for. */
+ * other, if that is asked for. */
 int node_send_since(node *of, uint8_t bucket, uint64_t since, bool has_after, node_page after,
     bool even_empty, uint8_t *frame, size_t room, size_t *length, size_t *entries, bool *more,
     node_page *last) {

@@ -64,14 +64,14 @@ static int test_fcntl(int fd, int command) {
 
 static int put_error; /* the errno of writes; 0: they succeed */
 
-/* What is in the files, where a test says that they keep it; else they have zeros. */
+/* What is in the files, if a test says that they keep it; else they have zeros. */
 enum { FILES = 32, FILE_BYTES = 512 };
 static uint8_t in_files[FILES][FILE_BYTES];
 static bool files_keep;
 
-/* Whether a page cannot be written, of the device whose descriptor is 10 and its number: where a
- * test says so. What a test does while a byte is written; and how many were written, or tried to,
- * with a shard locked. */
+/* Whether a page cannot be written, of the device whose descriptor is 10 and its number: if a test
+ * says so. What a test does while a byte is written; and how many were written, or tried to, with a
+ * shard locked. */
 static bool (*is_stuck)(node_page page);
 static int32_t stuck_error = EIO;
 static void (*at_write)(int fd, off_t at);
@@ -171,7 +171,7 @@ static int test_lock(pthread_mutex_t *lock) {
     return pthread_mutex_lock(lock);
 }
 
-/* What a test does once this thread has let a lock go, and has none: after so many others. */
+/* What a test does once this thread has let a lock go, and has none: after this many others. */
 static _Thread_local void (*at_unlock)(void);
 static _Thread_local int unlocks_before;
 

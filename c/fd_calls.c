@@ -146,7 +146,7 @@ static ssize_t make_write(request asked, int fd, const void *from, size_t length
     return device_write(fd, from, length, asked.at);
 }
 
-/* What a call returns, noted where it failed. */
+/* What a call returns, noted if it failed. */
 static ssize_t noted(ssize_t result) {
     if (result < 0) last_failure = errno;
     return result;

@@ -17,7 +17,7 @@
  *    one file give the same. Two device nodes of one block device do not. Its place is 0.
  *  - FD_CALLS_FAILURE: the next call is a read of the same descriptor, of FD_CALLS_FAILURE_LENGTH
  *    bytes: errno of the last call of this thread that failed, of whatever descriptor, highest byte
- *    first, and 0 where none has. No system is asked. Its place is 0.
+ *    first, and 0 if none has. No system is asked. Its place is 0.
  *
  * A device's own calls are made by this thread, and without a lock of the library but a shard's.
  * They may use handles of other replicas, and so make requests of their own: the request of the
@@ -48,7 +48,7 @@ enum { FD_CALLS_REQUEST = 9, FD_CALLS_IDENTITY_LENGTH = 16, FD_CALLS_FAILURE_LEN
 
 /* From here on, until fd_calls_forget, this thread asks the system once for the identity of each of
  * this many descriptors, which are asked for in one order, again and again: so does a replica's
- * call, shard by shard. Where there is no memory for that each is asked for each time. */
+ * call, shard by shard. If there is no memory for that, each is asked for each time. */
 void fd_calls_remember(size_t count);
 void fd_calls_forget(void);
 

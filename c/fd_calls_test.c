@@ -1,9 +1,8 @@
 /*
- * Tests fd_calls.c, and devices.c where devices are files: in place of the proved part this program
- * makes requests, and compares the answers with what the file holds by the system's own calls. It
- * has the code of both and of sync_once.c in itself, over calls of the system that can be made to
- * do little at a time. devices_test.c tests devices with calls of their own.
- */
+ * Tests fd_calls.c, and devices.c with devices that are files: in place of the proved part this
+ * program makes requests, and compares the answers with what the file holds by the system's own
+ * calls. It has the code of both and of sync_once.c in itself, over calls of the system that can be
+ * made to do little at a time. devices_test.c tests devices with calls of their own. */
 #define _GNU_SOURCE /* mkstemp, pipe, ftruncate */
 #define _FILE_OFFSET_BITS 64
 #include <errno.h>
@@ -20,11 +19,11 @@
 #include <unistd.h>
 
 #include "sync_once.h"
-/* Where most is not 0, a call moves at most that many bytes, and every other call is interrupted.
- * Where it is to put nothing, it does, and where a sync is to fail, the next one does. Where fstat
- * is to fail, it does. Where reads are direct, their places are multiples of 512. Where there is no
- * memory, each allocation fails. Where they are to meet, another thread's sync goes on while the
- * next write does, and another thread's write returns while the next sync does. */
+/* If most is not 0, a call moves at most that many bytes, and every other call is interrupted. If
+ * it is to put nothing, it does, and if a sync is to fail, the next one does. If fstat is to fail,
+ * it does. If reads are direct, their places are multiples of 512. If there is no memory, each
+ * allocation fails. If they are to meet, another thread's sync goes on while the next write does,
+ * and another thread's write returns while the next sync does. */
 static struct {
     size_t most;
     bool was_interrupted, puts_nothing, fails_sync, fails_stat, is_direct, has_no_memory,
@@ -193,9 +192,9 @@ static void test_slow_calls(void) {
     close(fd);
 }
 
-/* Where reads are direct, a page that the end of the file is in is read whole, and another rest
- * that is refused is a read that fails: also of a device, which has no size by which its end could
- * be known. */
+/* If reads are direct, a page that the end of the file is in is read whole, and another rest that
+ * is refused is a read that fails: also of a device, which has no size by which its end could be
+ * known. */
 static void test_direct(void) {
     int fd = new_file(), ends[2], device = open("/dev/zero", O_RDONLY);
     MUST(pipe(ends) == 0 && device >= 0 && write_at(fd, 0, 5000) == 5000);
@@ -299,7 +298,7 @@ static void test_failed_sync(void) {
     close(fd);
 }
 
-/* errno of the last call of this thread that failed, asked of any descriptor; -1 where it is not
+/* errno of the last call of this thread that failed, asked of any descriptor; -1 if it is not
  * answered. */
 static int failure_at(int fd) {
     uint8_t number[4];
@@ -307,8 +306,8 @@ static int failure_at(int fd) {
     return number[0] << 24 | number[1] << 16 | number[2] << 8 | number[3];
 }
 
-/* Of a descriptor that a replica has as a device, a sync is made where something was written since
- * the last one, also by a write that failed; and one that failed is not forgotten. */
+/* Of a descriptor that a replica has as a device, a sync is made if something was written since the
+ * last one, also by a write that failed; and one that failed is not forgotten. */
 static void test_counted_syncs(void) {
     int fd = new_file();
     MUST(sync_add(fd));

@@ -41,7 +41,7 @@ static void test_options(void) {
     options.replica = 64;
     MUST(warm_open(&handle, &options) == WARM_BAD_FRAMES);
     options.frames = 64 * 65536;
-    MUST(warm_open(&handle, &options) == WARM_BAD_PAGE_SIZE); /* so many are no bad frames */
+    MUST(warm_open(&handle, &options) == WARM_BAD_PAGE_SIZE); /* this many frames are not bad */
     options.frames = 64;
     options.page_size = 2;
     MUST(warm_open(&handle, &options) == WARM_BAD_DEVICE); /* which are too many */
@@ -59,7 +59,7 @@ static void test_options_of_devices(void) {
     options.device_count = WARM_MAX_DEVICES + 1;
     MUST(warm_open(&handle, &options) == WARM_BAD_DEVICE);
     options.device_count--;
-    MUST(warm_open(&handle, &options) == WARM_SAME_FILE); /* what a fake node says of so many */
+    MUST(warm_open(&handle, &options) == WARM_SAME_FILE); /* what a fake node says of this many */
     options.device_count = 2;
     options.devices = too_large;
     for (appending = 0; appending <= 12; appending += 12)

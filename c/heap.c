@@ -2,9 +2,9 @@
  * heap.c: the memory of the library, as heap.h says. Nothing here is proved; c/check tests it.
  *
  * Blocks of whole units are cut from runs. A run is 256 units that the system maps, for blocks of
- * one size, and is given back with the last of them. Where there are many runs, as for a pool of
- * more than 48 megabytes, the next ones are of 8,192 units in huge pages: a pin of a page that was
- * not used lately misses one look at the processor's table of addresses, where small pages miss two
+ * one size, and is given back with the last of them. If there are many runs, as for a pool of more
+ * than 48 megabytes, the next ones are of 8,192 units in huge pages: a pin of a page that was not
+ * used lately misses one look at the processor's table of addresses; with small pages it misses two
  * and more. aligned_alloc is no help: with glibc's a block of one unit takes two, since what it
  * keeps before the block is in the unit before.
  */
@@ -39,7 +39,7 @@ typedef struct run {
     size_t cut;  /* how many blocks were ever in use: those behind them were not touched */
     size_t used; /* how many are in use */
     void *freed; /* the last of these that was freed; each of them begins with the one before */
-    /* among the runs of its size that have room, where it is one: the next, and what points here */
+    /* among the runs of its size that have room, if it is one: the next, and what points here */
     struct run *next, **link;
 } run;
 
@@ -118,7 +118,7 @@ static bool map(run *its, size_t bytes, size_t mapped_bytes) {
     return true;
 }
 
-/* Small pages do where the system has no huge ones. */
+/* Small pages do if the system has no huge ones. */
 static bool map_great(run *its) {
     if (!map(its, GREAT_BYTES, GREAT_MAPPED)) return false;
     its->at += -(uintptr_t)its->mapped % HUGE_BYTES;

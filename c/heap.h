@@ -19,7 +19,7 @@
 
 enum { HEAP_UNIT = 4096, HEAP_MOST_UNITS = 16 };
 
-/* Whether there is memory, and the block; where there is none, p points to a byte of no use. */
+/* Whether there is memory, and the block; if there is none, p points to a byte of no use. */
 typedef struct tried {
     bool ok;
     void *p;
@@ -29,7 +29,7 @@ typedef struct tried {
 tried rattle_alloc(size_t n, size_t a);
 
 /* Makes the block at p one of n bytes, of which the first kept ones, which both have, are as they
- * were. It may move. Where there is no memory, the block is as it was. */
+ * were. It may move. If there is no memory, the block is as it was. */
 tried rattle_realloc(void *p, size_t kept, size_t n, size_t a);
 
 /* Frees a block that one of the two answered. */

@@ -220,7 +220,7 @@ static void test_holes(void) {
     MUST(in_use == 0 && runs == NULL && mapped == 0);
 }
 
-/* Many runs, and then great ones, in huge pages; where the system maps none of these, small ones go
+/* Many runs, and then great ones, in huge pages; if the system maps none of these, small ones go
  * on. */
 static void test_great_runs(void) {
     enum {

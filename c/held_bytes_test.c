@@ -50,7 +50,7 @@ static uint64_t calls(warm *handle) {
     return all;
 }
 
-/* A read of the page with this slot: what comes of it, in bytes that it leaves where it is
+/* A read of the page with this slot: what comes of it, in bytes that it leaves as they are if it is
  * refused. */
 static int read_bytes(warm *by, warm_slot slot, size_t at, size_t length, uint8_t got[SIZE + 1]) {
     memset(got, 0xEE, SIZE + 1);
@@ -70,8 +70,8 @@ static bool is_of(warm *by, warm_slot slot, uint64_t no) {
     return true;
 }
 
-/* The same of a slot that its handle holds: no node is asked, and what locks are taken is that of a
- * read, where there are other handles. */
+/* The same of a slot that its handle holds: no node is asked, and the only lock taken is that of a
+ * read, if there are other handles. */
 static bool is_held(warm *by, warm_slot slot, uint64_t no) {
     uint64_t asked = calls(by);
     int before = taken, locks = open_handles(((opened *)by->at)->of) > 1;
@@ -88,7 +88,7 @@ static bool is_stale(warm *by, warm_slot slot) {
     return status == WARM_STALE_SLOT;
 }
 
-/* The slot of a held page is stale where any of its bits is another, but those of hit. */
+/* The slot of a held page is stale if any of its bits is another, except for those of hit. */
 static void all_bits_count(warm *by, warm_slot slot) {
     const uint8_t *bytes;
     for (int bit = 0; bit < 64; bit++) {
@@ -213,7 +213,7 @@ static void test_generations(void) {
     close_two(&first, &second);
 }
 
-/* Another handle's hold keeps a page, or its own that it made anew. */
+/* Another handle's hold keeps a page, or its own that it made again. */
 static void test_holders(void) {
     warm first = {0}, second = {0};
     open_two(&first, &second, 1, 2);
@@ -262,7 +262,7 @@ static void test_both(void) {
     close_two(&first, &second);
 }
 
-/* A handle that is alone takes no lock; one that is closed is told so first. */
+/* A handle that is alone takes no lock; a call of one that is closed is refused first. */
 static void test_alone(void) {
     warm handle = {0};
     uint8_t got[SIZE + 1];

@@ -258,10 +258,9 @@ bool pin_victim(shard *in, node_page *page, node_slot *slot) {
 }
 
 /* Pins the node's next victims while they are held, and ends at the first that is not. Writes its
- * record, closed, or NULL where there is no such page or it has no record, as nobody then holds it.
- * False where there is no room: that page is held. What was seen before a record was closed is
- * enough to say that its page is held, since that is asked again, and not enough to say that it is
- * not. */
+ * record, closed, or NULL if there is no such page or it has no record, as nobody then holds it.
+ * False if there is no room: that page is held. What was seen before a record was closed is enough
+ * to say that its page is held, since that is asked again, and not enough to say that it is not. */
 static bool pass_over(opened *its, shard *in, record **last) {
     table *of = &in->table;
     for (;;) {
@@ -351,7 +350,7 @@ bool may_leave(opened *its, shard *in, uint16_t dev, uint64_t from) {
 
 /* ---- before a call on a slot ---- */
 
-/* The record that a word names, where it is of this shard and the record is as it was. */
+/* The record that a word names, if it is of this shard and the record is as it was. */
 static const record *named(const opened *its, const shard *in, uint64_t word) {
     if (word == 0 || word >> SHARD_AT != shard_number(its, in)) return NULL;
     const record *at = &in->table.records[word >> RECORD_AT & RECORD_MASK];

@@ -4,7 +4,7 @@
  * A shard has records: each says where a page is that is in a frame. A handle has holds: each names
  * a record, and so a page that the handle pins. The node does not know of holds. Whoever is in a
  * shard, and is about to let a page leave its frame, closes the record of that page, looks at all
- * holds, and where one names it pins the page in the node until the call is over. So the node has a
+ * holds, and if one names it, pins the page in the node until the call is over. So the node has a
  * pin of a held page whenever its answer depends on that, and has none of them between calls.
  *
  * A hold is a hazard pointer, and a record is what it protects. The handle publishes the hold (an
@@ -76,7 +76,7 @@ typedef struct table {
     uint64_t *seen;                /* the words of this shard that were seen, in any order */
     uint64_t *sorted; /* many of them also here, each at the place that its bits say or behind it */
     size_t seen_count, sorted_mask;
-    node_page victim; /* where has_victim, the page that would leave by the node's last answer */
+    node_page victim; /* if has_victim, the page that would leave by the node's last answer */
     bool has_victim;
     size_t frames, filled; /* filled: those that have a page. While one has none, no page leaves */
     size_t pinned;         /* pins in the node that callers have */
@@ -85,7 +85,7 @@ typedef struct table {
 } table;
 
 /* The first of the records that a page may have: two of them share a line of memory. It is mixed
- * twice: the middle of one product leaves gaps, and heaps beside them, where numbers follow each
+ * twice: the middle of one product leaves gaps, and heaps beside them, if numbers follow each
  * other, as those of pages do (a quarter of all pins of 65,536 pages in a row took the lock). */
 static inline record *first_record(const table *of, node_page page) {
     uint64_t mixed = (page.no + ((uint64_t)page.dev << 48)) * 0x9E3779B97F4A7C15u;
@@ -93,7 +93,7 @@ static inline record *first_record(const table *of, node_page page) {
     return &of->records[2 * (mixed >> 32 & of->mask)];
 }
 
-/* The open record of a page, and its state; NULL where it has none. */
+/* The open record of a page, and its state; NULL if it has none. */
 static inline record *find_record(const table *of, node_page page, uint32_t *state) {
     record *at = first_record(of, page);
     for (record *end = at + NEAR; at < end; at++) {
@@ -127,11 +127,11 @@ struct shard;
 /* Zeros in lines of their own, or NULL; and the block of malloc that they are in. */
 void *in_lines(size_t size, void **block);
 
-/* The table of a shard of this many frames; false where there is no memory: close_table, too. */
+/* The table of a shard of this many frames; false if there is no memory: close_table, too. */
 bool open_table(table *of, size_t frames);
 void close_table(table *of);
 
-/* Gives a handle holds, and room for them in each shard; false where there is no memory. */
+/* Gives a handle holds, and room for them in each shard; false if there is no memory. */
 bool take_holds(struct opened *its);
 void give_holds(struct opened *its);
 
@@ -144,13 +144,13 @@ uint64_t hits_of_holds(struct replica *of);
 
 /* The rest is called by who is in the shard. */
 
-/* Gives a page that is in a frame a record, where there is room for one. It is for a page that was
+/* Gives a page that is in a frame a record, if there is room for one. It is for a page that was
  * pinned before: many pages leave without a record. */
 void put_record(
     struct opened *its, struct shard *in, node_page page, node_slot slot, const uint8_t *bytes);
 
 /* Before a call of the node that may let a page leave for another, or says which one would: that
- * page, the table's victim, is then one that nobody holds. False where the call is to be refused
+ * page, the table's victim, is then one that nobody holds. False if the call is to be refused
  * (WARM_ALL_PINNED). After the call, and before this is asked again, unpin_passed. */
 bool pass_over_held(struct opened *its, struct shard *in, bool leaves);
 void unpin_passed(struct shard *in);
@@ -159,10 +159,10 @@ void unpin_passed(struct shard *in);
 void note_loaded(struct shard *in);
 void note_left(struct shard *in);
 
-/* Pins a page in the node that is in a frame; false where it has too many pins. */
+/* Pins a page in the node that is in a frame; false if it has too many pins. */
 bool pin_in_node(struct shard *in, node_page page, node_slot *slot);
 
-/* Pins the page in the node that would leave next, and writes which; false where there is none. */
+/* Pins the page in the node that would leave next, and writes which; false if there is none. */
 bool pin_victim(struct shard *in, node_page *page, node_slot *slot);
 
 /* Before a call of the node on a slot: whether the slot's page is held, and was pinned in the node.

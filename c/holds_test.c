@@ -254,8 +254,8 @@ static void find_sharing(const table *of) {
     MUST(count == NEAR + 1);
 }
 
-/* How many pages of a full shard find none of the records free that they may have, where their
- * numbers are at this distance. */
+/* How many pages of a full shard find none of the records free that they may have, if their numbers
+ * are at this distance. */
 static size_t without_record(size_t frames, size_t distance) {
     static record records[2 * 65536 + NEAR];
     const table of = {.records = records, .mask = frames - 1};
@@ -304,7 +304,7 @@ static void test_full_table(void) {
     close_two(&first, &second);
 }
 
-/* Where pages that are passed over have no room, calls are refused, and all is as before. */
+/* If pages that are passed over have no room, calls are refused, and all is as before. */
 static void test_no_room(void) {
     warm first = {0}, second = {0};
     warm_slot slot, held_slots[3];
@@ -350,8 +350,8 @@ static void let_go_and_take(void) {
     to_let_go = hold_page(other, to_take);
 }
 
-/* A page that was passed over and is let go before the choice is made is chosen; also where there
- * was no room to pass it over. */
+/* A page that was passed over and is let go before the choice is made is chosen, even if there was
+ * no room to pass it over. */
 static void test_letting_go(void) {
     for (int round = 0; round < 5; round++) {
         warm first = {0}, second = {0};
@@ -403,7 +403,7 @@ static void test_taking(void) {
 }
 
 /* The other handle pins another page within a pin of page 0 by a hold, before or after the hold is
- * there; twice, so that the page has a record, which is that of page 0 where this one left. */
+ * there; twice, so that the page has a record, which is that of page 0 if this one left. */
 static int steps, at_step;
 static bool forgets;
 static warm_slot taken_slot;
@@ -460,7 +460,7 @@ static void test_steps(void) {
     }
 }
 
-/* The same, where the page is forgotten before the hold is there. */
+/* The same, if the page is forgotten before the hold is there. */
 static void test_step_of_forgetting(void) {
     warm first = {0}, second = {0};
     warm_slot slot;
@@ -579,8 +579,8 @@ static void hold_words(warm *handles, size_t words, size_t pages) {
     for (size_t at = 0; at < words; at++) OK(warm_unpin(&handles[at / HOLDS], slots[at]));
 }
 
-/* Of more words than are looked for one by one, each is found, and no other: also where several are
- * of one page. */
+/* Of more words than are looked for one by one, each is found, and no other, even if several are of
+ * one page. */
 static void test_many_words(void) {
     warm handles[5] = {{0}};
     OK(open_with(&handles[0], 1, 1, FAKE_FRAMES, devices, FAKE_DEVICES));
@@ -594,7 +594,7 @@ static void test_many_words(void) {
     nothing_left();
 }
 
-/* Words that are looked for by their bits, also where these are the same. */
+/* Words that are looked for by their bits, even if these are the same. */
 static void test_sorted_words(void) {
     table of = {0};
     MUST(make_room(&of, 64));

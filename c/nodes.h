@@ -88,8 +88,8 @@ int node_load(node *handle, int fd, uint64_t length);
 
 /*
  * Parts. shards is how many shards there are (1, 2, 4 to 64), and shard one of them, from 0. The
- * shard of a page is its bucket (docs/FORMATS.md), modulo shards. Where a function returns a
- * status, it is WARM_BAD_SHARDS first, then WARM_NO_SHARD, where they are not so.
+ * shard of a page is its bucket (docs/FORMATS.md), modulo shards. A function that returns a status
+ * refuses other numbers first: WARM_BAD_SHARDS, then WARM_NO_SHARD.
  */
 
 /* Pins a page as node_pin does, and writes where its bytes lie, as node_bytes does.
@@ -97,10 +97,10 @@ int node_load(node *handle, int fd, uint64_t length);
 int node_pin_bytes(node *handle, node_page page, node_slot *slot, const uint8_t **bytes);
 
 /* Pins a page as node_pin does, but with these bytes in place of a read, and writes its slot. They
- * are the page as its device has it now, whole: that is believed. No device is read. Of a page that
- * is in a frame the bytes are not looked at.
- * Refused: WARM_BAD_PAGE_SIZE where they are not as many as a page has; what node_pin is refused
- * with, but WARM_READ_FAULT. The slot is then as it was. */
+ * are the page as its device has it now, whole: this is not checked. No device is read. If the page
+ * is in a frame, the bytes are not looked at.
+ * Refused: WARM_BAD_PAGE_SIZE if they are not as many as a page has; then as node_pin is, but for
+ * WARM_READ_FAULT. The slot is then as it was. */
 int node_pin_filled(
     node *handle, node_page page, const uint8_t *bytes, size_t length, node_slot *slot);
 
@@ -113,15 +113,15 @@ int node_next(node *handle, bool *found, node_page *page);
 int node_dirty(node *handle, node_page page, bool *dirty);
 
 /* Writes whether a frame with the number from or a higher one is dirty, the number of the first
- * such frame, and its page. Frames are numbered from 0. Where there is none, as for a number beyond
+ * such frame, and its page. Frames are numbered from 0. If there is none, as for a number beyond
  * the last frame, frame and page are as they were. */
 int node_next_dirty(node *handle, size_t from, bool *found, size_t *frame, node_page *page);
 
 /* Writes the frame of the first 1000 entries of a bucket, of those with a stamp from the time since
  * on and, if has_after, of a page greater than after; its length; how many entries it has; whether
- * more of them follow; and the page of the last one. Where there is none, last is as it was; so are
+ * more of them follow; and the page of the last one. If there is none, last is as it was; so are
  * frame and length, unless even_empty.
- * Refused: WARM_BAD_BUCKET; WARM_MEMORY; WARM_BUFFER_TOO_SMALL, where length is the room that it
+ * Refused: WARM_BAD_BUCKET; WARM_MEMORY; WARM_BUFFER_TOO_SMALL: length is then the room that it
  * needs. */
 int node_send_since(node *handle, uint8_t bucket, uint64_t since, bool has_after, node_page after,
     bool even_empty, uint8_t *frame, size_t room, size_t *length, size_t *entries, bool *more,
@@ -137,16 +137,16 @@ enum { NODE_ENTRIES = 1, NODE_DIGESTS = 2, NODE_REQUEST = 3 };
 
 typedef struct node_frame {
     uint64_t horizon;
-    uint64_t shards;  /* of entries: bit i where an entry is of a page of shard i; else 0 */
-    uint64_t buckets; /* of a request: bit i where bucket i is requested; else 0 */
+    uint64_t shards;  /* of entries: bit i if an entry is of a page of shard i; else 0 */
+    uint64_t buckets; /* of a request: bit i if bucket i is requested; else 0 */
     size_t entries;   /* how many entries it has; 0 of digests and of a request */
     uint8_t kind;     /* NODE_ENTRIES, NODE_DIGESTS or NODE_REQUEST */
 } node_frame;
 
-/* Writes what a frame is, which speaks of no time later than the limit, and whose horizon is by a
- * limit of its own, too.
+/* Writes what a frame is, if no time in it is later than the limit, and its horizon is not later
+ * than a limit of its own.
  * Refused: WARM_TRUNCATED to WARM_BAD_ORDER, by the first fault from left to right;
- * WARM_LATE_HORIZON, where it is later than one of both limits; WARM_LATE_STAMP; WARM_MEMORY at any
+ * WARM_LATE_HORIZON, if it is later than one of both limits; WARM_LATE_STAMP; WARM_MEMORY at any
  * point. */
 int node_read_frame(size_t shards, uint64_t limit, uint64_t horizon_limit, const uint8_t *frame,
     size_t length, node_frame *what);
@@ -165,19 +165,19 @@ int node_digests(node *handle, size_t shards, size_t shard, node_table *table, u
 
 /* Writes the frame of these digests, as a replica of this number and horizon offers it, and its
  * length.
- * Refused: WARM_BAD_REPLICA; WARM_MEMORY; WARM_BUFFER_TOO_SMALL, where length is the room that it
+ * Refused: WARM_BAD_REPLICA; WARM_MEMORY; WARM_BUFFER_TOO_SMALL: length is then the room that it
  * needs. */
 int node_offer_frame(uint16_t replica, uint64_t horizon, const node_table *table, uint8_t *frame,
     size_t room, size_t *length);
 
-/* Of a frame of digests: bit i where that of bucket i differs from the table's. Of any other
+/* Of a frame of digests: bit i if that of bucket i differs from the table's. Of any other
  * frame: 0.
  * Refused: WARM_TRUNCATED to WARM_BAD_ORDER; WARM_MEMORY. */
 int node_differing(const node_table *table, const uint8_t *frame, size_t length, uint64_t *buckets);
 
 /* Writes the frame by which a replica of this number and horizon requests these buckets (bit i:
  * bucket i), and its length.
- * Refused: WARM_BAD_REPLICA; WARM_MEMORY; WARM_BUFFER_TOO_SMALL, where length is the room that it
+ * Refused: WARM_BAD_REPLICA; WARM_MEMORY; WARM_BUFFER_TOO_SMALL: length is then the room that it
  * needs. */
 int node_want_frame(uint16_t replica, uint64_t horizon, uint64_t buckets, uint8_t *frame,
     size_t room, size_t *length);
@@ -192,7 +192,7 @@ int node_may_forget(node *handle, uint16_t dev, uint64_t from);
 int node_may_replace(node *handle, uint16_t dev, const node_device *device);
 
 /*
- * Histories alone, which have no frame and no device. Where there is a node_NAME, peer_NAME does
+ * Histories alone, which have no frame and no device. If there is a node_NAME, peer_NAME does
  * the same of a history alone.
  */
 
@@ -211,12 +211,12 @@ int peer_load(peer *handle, int fd, uint64_t length);
 
 /* Joins the history of a node to a history alone, at the later horizon of both. The node is as it
  * was. All or nothing.
- * Refused: WARM_CLOSED where one of them is closed; WARM_MEMORY. */
+ * Refused: WARM_CLOSED if one of them is closed; WARM_MEMORY. */
 int peer_gather(peer *into, node *from);
 
 /* Joins what a history alone has of pages of the shard to the history of the shard's node, at the
  * later horizon of both. The history alone is as it was. All or nothing.
- * Refused: WARM_CLOSED where one of them is closed; WARM_MEMORY. */
+ * Refused: WARM_CLOSED if one of them is closed; WARM_MEMORY. */
 int node_join_part(node *into, size_t shards, size_t shard, peer *from);
 
 #endif

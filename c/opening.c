@@ -83,7 +83,7 @@ static bool make_lock(shard *of) {
     return false;
 }
 
-/* Whether all locks were made; where one was not, none is left. */
+/* Whether all locks were made; if one was not, none is left. */
 static bool make_locks(replica *of) {
     for (size_t number = 0; number < of->count; number++) {
         if (make_lock(&of->shards[number])) continue;
@@ -179,7 +179,7 @@ static int open_replica(replica *of, const warm_options *its) {
 
 /* ---- handles ---- */
 
-/* A page is read into a buffer, or written from one, also where that is done with O_DIRECT. */
+/* A page is read into a buffer, or written from one, also with O_DIRECT. */
 static bool take_buffer(const opened *its, uint8_t **buffer) {
     tried taken = rattle_alloc(its->of->page_size, 1);
     if (taken.ok) *buffer = taken.p;

@@ -9,7 +9,7 @@
 
 enum { PAGES = 64, NOT_ASKED = -1 };
 
-/* What a device does, and what it was asked. skips has bit i set where page i is skipped. */
+/* What a device does, and what it was asked. skips has bit i set if page i is skipped. */
 typedef struct own {
     uint8_t bytes[PAGES];
     uint64_t skips, asked, told; /* asked and told: bit i, before and after a write of page i */

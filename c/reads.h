@@ -3,11 +3,11 @@
  *
  * Who is in a shard, and wants a page that is in no frame and that nobody reads, puts it into the
  * shard's list of reads, leaves the shard, reads the page into the buffer of the handle, enters the
- * shard again, hands the bytes to the node, and takes the page from the list. Where the page that
- * is to leave for it is dirty, the shard is left before that once more (writes.h): so who fills a
- * page with zeros puts it into the list, too. Who wants a page that is in the list, be it to read
- * it or to fill it with zeros, waits until it is taken from there, and then looks again. So the
- * bytes are those that the device has:
+ * shard again, hands the bytes to the node, and takes the page from the list. If the page that is
+ * to leave for it is dirty, the shard is left before that once more (writes.h): so who fills a page
+ * with zeros puts it into the list, too. Who wants a page that is in the list, be it to read it or
+ * to fill it with zeros, waits until it is taken from there, and then looks again. So the bytes are
+ * those that the device has:
  *  - Nobody writes a page to its device while the list has it: it is in no frame.
  *  - It was written before that: a dirty page is written before its frame is given to another one,
  *    and a page that is skipped, or whose write fails, keeps its frame.
@@ -40,7 +40,7 @@ typedef struct reading {
 
 /* All is called by who is in the shard, but for the last one. */
 
-/* WARM_OK where nobody reads a page. Else waits, with the shard left, until it is read, and returns
+/* WARM_OK if nobody reads a page. Else waits, with the shard left, until it is read, and returns
  * READ_AGAIN; or WARM_BUSY. */
 int wait_for_read(
     const struct opened *its, struct shard *in, node_page page, patience *left);

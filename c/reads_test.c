@@ -1,7 +1,7 @@
 /*
  * Tests reads with no shard locked (reads.c, shards.c) over fake_library.h: who wants a page that
  * is being read waits for it, and for nothing else; what is refused is refused before a page is
- * read, where that is known; and loads without a pin. What is forgotten or replaced meanwhile is
+ * read, if that is known; and loads without a pin. What is forgotten or replaced meanwhile is
  * tested by stale_reads_test.c.
  */
 #include "callers.h"
@@ -191,7 +191,7 @@ static void test_far_place(void) {
 
 /* ---- frames ---- */
 
-/* Where no frame is free no page is read; also where pages are held. */
+/* If no frame is free, no page is read; the same if pages are held. */
 static void test_no_room(void) {
     warm_slot slot, slots[2];
     open_all(1, 2);
@@ -219,8 +219,8 @@ static void test_no_room(void) {
     close_all();
 }
 
-/* Before a page is read the node is asked which one would leave, but where frames are left that no
- * pin and no hold can have. */
+/* Before a page is read the node is asked which one would leave, unless frames are left that no pin
+ * and no hold can have. */
 static int questions;
 
 static void count_it(void) { questions++; }

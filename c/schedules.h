@@ -1,7 +1,7 @@
 /*
  * schedules.h: for schedules_test.c, over fake_library.h: threads of which one runs at a time. At
  * each lock, unlock, wait and pause between the steps of a pin, and where a test says so, another
- * one may go on; which one is drawn. So a seed gives one schedule, and where no thread can go on
+ * one may go on; which one is drawn. So a seed gives one schedule, and if no thread can go on,
  * that is seen. They are stacks that one thread of the system changes between.
  */
 #ifndef SCHEDULES_H
@@ -39,7 +39,7 @@ typedef struct thread_state {
 typedef struct thread {
     ucontext_t at;
     void *stack;
-    const void *awaits; /* a lock, a condition or a latch; NULL where it can go on */
+    const void *awaits; /* a lock, a condition or a latch; NULL if it can go on */
     bool is_over, has_limit; /* has_limit: its time may be over while it waits */
     thread_state state;
 } thread;
@@ -88,7 +88,7 @@ static int ready_thread(void) {
     return count == 0 ? -1 : ready[drawn((uint64_t)count)];
 }
 
-/* Goes on with a thread that can; with the main program where all are over. */
+/* Goes on with a thread that can; with the main program if all are over. */
 static void switch_threads(void) {
     thread *from = &threads[running];
     int to = ready_thread();

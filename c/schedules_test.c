@@ -16,7 +16,8 @@ enum { PAGES = 6, ROUNDS = 25, KEPT = 2, NOBODY = -1, SCHEDULES = 2000 };
  * number of their storage. */
 enum { LATCHED, PLAIN, ASKED, REPLACED, DISKS };
 
-/* Each change of a page is a version, from 1 on. Its byte is one more, but where it is zeros. */
+/* Each change of a page is a version, from 1 on. Its byte is one more, unless the page is set to
+ * zeros. */
 typedef struct page {
     int begun, done; /* the versions of the last change, and of the last one that is over */
     int zeros;       /* the version that is zeros, or 0 */
@@ -39,14 +40,14 @@ static bool fails, fails_syncs, is_replacing, has_limits;
 static long written;
 static warm opener, attached[THREADS];
 
-/* Where all threads change and write one page alone: how many writes of it have ended while a
- * write-back of a thread waited; NOBODY where it is in none. */
+/* If all threads change and write one page alone: how many writes of it have ended while a
+ * write-back of a thread waited; NOBODY if it is in none. */
 static bool is_hot;
 static int waited[THREADS];
 static const node_page hot = {.dev = PLAIN};
 
-/* Where threads want frames while one page is written: how many they are, and how many have one,
- * for all of which the write waits; whether it has begun; how many are to hold pages, and do. */
+/* If threads want frames while one page is written: how many they are, and how many have one, for
+ * all of which the write waits; whether it has begun; how many are to hold pages, and do. */
 static int wanters, got, holders, holding;
 static bool is_being_written;
 
@@ -232,7 +233,7 @@ static bool may_be_refused(int status) {
            status == WARM_READ_FAULT || (status == WARM_BUSY && has_limits);
 }
 
-/* A call that changes a page that the thread has pinned is refused where its time is over alone:
+/* A call that changes a page that the thread has pinned is refused only if its time is over:
  * nothing has changed then. */
 #define UNTIL_OK(call)                                                  \
     for (int status = WARM_BUSY; status != WARM_OK;) {                  \
@@ -271,7 +272,7 @@ static void write_byte(warm *by, const kept *its, page *of) {
     UNTIL_OK(warm_write(by, its->slot, 0, &byte, 1));
 }
 
-/* Changes a page under its latch. By a pointer alone where before_write tries that latch. */
+/* Changes a page under its latch. By a pointer alone if before_write tries that latch. */
 static void change_page(warm *by, const kept *its) {
     page *of = page_of_kept(its);
     uint64_t way = drawn(its->page.dev == LATCHED ? 5 : 3);
@@ -291,7 +292,7 @@ static void change_page(warm *by, const kept *its) {
     release_latch(of);
 }
 
-/* Pins a page, by zeros where it had none before: a pin that is refused changes nothing. */
+/* Pins a page, by zeros if it had none before: a pin that is refused changes nothing. */
 static int pin_any(warm *by, kept *its) {
     page *of = page_of_kept(its);
     if (its->page.dev == REPLACED || drawn(12) != 0)
@@ -604,7 +605,7 @@ static void play_frames(void) {
     write_and_close();
 }
 
-/* Where a test fails, exit is called. */
+/* If a test fails, exit is called. */
 static void say_seed(void) {
     if (seed != 0) fprintf(stderr, "in schedule %llu\n", (unsigned long long)seed);
 }

@@ -12,7 +12,7 @@
 
 /* ---- pages ---- */
 
-/* The hold by which the handle names a record, or one that it does not use; HOLDS where it has none
+/* The hold by which the handle names a record, or one that it does not use; HOLDS if it has none
  * left, or no count. */
 static inline unsigned hold_for(const opened *its, uint64_t word) {
     for (unsigned left = its->used; left != 0; left &= left - 1) {
@@ -23,8 +23,8 @@ static inline unsigned hold_for(const opened *its, uint64_t word) {
 }
 
 /* Holds the record's page, unless another one has the record now. A hold that is given up here
- * wakes nobody who wants a frame: the page is pinned in the shard next, where it is still in its
- * frame. It is not where another one was loaded, whose unpin wakes them. */
+ * wakes nobody who wants a frame: the page is pinned in the shard next, if it is still in its
+ * frame. It is not if another one was loaded, whose unpin wakes them. */
 static inline bool hold(
     opened *its, unsigned at, record *its_record, uint32_t state, uint64_t word) {
     HOLDS_PAUSE();
@@ -64,7 +64,7 @@ static inline bool pin_by_hold(
     return true;
 }
 
-/* Finds the hold of the slot's page; false where the handle has none. */
+/* Finds the hold of the slot's page; false if the handle has none. */
 static inline bool find_hold(const opened *its, warm_slot slot, unsigned *found) {
     for (unsigned left = its->used; left != 0; left &= left - 1) {
         unsigned at = (unsigned)__builtin_ctz(left);
@@ -76,7 +76,7 @@ static inline bool find_hold(const opened *its, warm_slot slot, unsigned *found)
     return false;
 }
 
-/* Takes back a pin by a hold, where the slot's page has one. */
+/* Takes back a pin by a hold, if the slot's page has one. */
 static inline bool unpin_by_hold(opened *its, warm_slot slot) {
     unsigned at;
     if (!find_hold(its, slot, &at)) return false;
@@ -106,7 +106,7 @@ typedef struct load {
     unsigned tries;       /* how many pages were written to leave for it */
     uint64_t failed;      /* how many calls of devices did, or were skipped, so far */
     patience left;
-    reading *begun;       /* where the shard is locked, and the page in no frame */
+    reading *begun;       /* if the shard is locked, and the page in no frame */
     node_slot slot;       /* of a pin that was made */
     const uint8_t *bytes; /* of such a pin, but of LOAD_PINS_ZEROED */
 } load;
@@ -130,7 +130,7 @@ static bool is_victim_dirty(shard *in) {
     return is_dirty;
 }
 
-/* The page that leaves is one that nobody holds: where none leaves, the node alone is asked. */
+/* The page that leaves is one that nobody holds: if none leaves, the node alone is asked. */
 static int load_once(opened *its, shard *in, load *it) {
     if (in->table.filled < in->table.frames) return ask_node(its, in, it);
     if (!pass_over_held(its, in, true)) return WARM_ALL_PINNED;
@@ -151,8 +151,8 @@ static bool has_room(opened *its, shard *in) {
     return of->filled < of->frames || of->pinned + of->room < of->frames || has_victim(its, in);
 }
 
-/* The node's pins of pages that are being written, which no caller has: where it is asked what it
- * would say without one, or all of them, they are taken back before, and made again after that. */
+/* The node's pins of pages that are being written, which no caller has: to ask it what it would say
+ * without one, or all of them, they are taken back before, and made again after that. */
 static void unpin_write(shard *in, const writing *at) {
     if (at != NULL) node_unpin(&in->node, at->slot);
 }
@@ -205,8 +205,8 @@ static void unpin_stuck(shard *in, stuck_pages *all) {
     while (all->pinned > 0) node_unpin(&in->node, all->slots[--all->pinned]);
 }
 
-/* Writes the page that is to leave, with the shard left. What failed first is noted, also where the
- * call succeeds then. */
+/* Writes the page that is to leave, with the shard left. What failed first is noted, even if the
+ * call then succeeds. */
 static int write_victim(opened *its, shard *in, load *it, stuck_pages *all) {
     node_page victim = in->table.victim;
     int error = 0;
@@ -220,9 +220,9 @@ static int write_victim(opened *its, shard *in, load *it, stuck_pages *all) {
     return WARM_OK;
 }
 
-/* Where no page may leave, and one that is being written would: waits until one may, with the shard
+/* If no page may leave, and one that is being written would: waits until one may, with the shard
  * left. Holds may have been given up since it was found so: they are looked at once more. Returns
- * WARM_OK or READ_AGAIN, where it is to be looked for again; WARM_ALL_PINNED; or WARM_BUSY. */
+ * WARM_OK or READ_AGAIN, if it is to be looked for again; WARM_ALL_PINNED; or WARM_BUSY. */
 static int wait_for_frame(opened *its, shard *in, patience *left, stuck_pages *all) {
     if (in->writes == NULL) return WARM_ALL_PINNED;
     begin_to_want(in);
@@ -262,7 +262,7 @@ static int load_read_once(opened *its, shard *in, load *it) {
     return load_once(its, in, it);
 }
 
-/* Where the node cannot write the page that is to leave, the next one leaves. */
+/* If the node cannot write the page that is to leave, the next one leaves. */
 static int load_again(opened *its, shard *in, load *it, stuck_pages *all, int status) {
     if (all->count + it->failed == 0) noted(its, in, status);
     while (status == WARM_EVICT_FAULT && all->count < STUCK &&
@@ -319,7 +319,7 @@ static int pin_resident(opened *its, shard *in, load *it) {
 
 /* ---- pages that are read with no shard locked ---- */
 
-/* What the node would refuse before it needs the page's bytes. Where each page that could leave is
+/* What the node would refuse before it needs the page's bytes. If each page that could leave is
  * being written, waits for one of them. */
 static int may_load(opened *its, shard *in, load *it) {
     const replica *of = its->of;
@@ -363,7 +363,7 @@ static int load_read(opened *its, shard *in, load *it) {
     return node_unpin(&in->node, it->slot);
 }
 
-/* Looks whether a page is in a frame. WARM_OK where it is, or nobody reads it; READ_AGAIN, or
+/* Looks whether a page is in a frame. WARM_OK if it is, or nobody reads it; READ_AGAIN, or
  * WARM_BUSY. */
 static int look_for(opened *its, shard *in, load *it) {
     node_resident(&in->node, it->page, &it->is_hit);
@@ -425,8 +425,8 @@ __attribute__((noinline)) static int pin_slowly(
     return status;
 }
 
-/* A hit takes up to a tenth more where jumps cross lines of memory: so it is not up to the code
- * before this function and warm_unpin. */
+/* A hit takes up to a tenth more if jumps cross lines of memory: so it is not up to the code before
+ * this function and warm_unpin. */
 __attribute__((aligned(LINE))) int warm_pin_bytes(
     warm *handle, warm_page page, warm_slot *slot, const uint8_t **bytes) {
     opened *its = handle->at;
@@ -473,12 +473,12 @@ void let_go_of_pins(opened *its) {
         unpin_in_shard(its, its->known[left - 1]);
 }
 
-/* A shard that is entered for a call on a slot, whose page the node has a pin of meanwhile, where
+/* A shard that is entered for a call on a slot, whose page the node has a pin of meanwhile, if
  * anybody has one. */
 typedef struct visit {
     shard *in;
     node_slot slot;
-    writing *written; /* of the page, where it is being written */
+    writing *written; /* of the page, if it is being written */
     bool is_locked, is_pinned, changes;
 } visit;
 
@@ -495,7 +495,7 @@ __attribute__((noinline)) static int look_for_write(const opened *its, visit *ma
 }
 
 /* Whether the handle is open and the shard there, or why not. Who is about to change the page waits
- * until it is copied, where that is about to be written. */
+ * until it is copied, if that is about to be written. */
 static int enter_slot_to(warm *handle, warm_slot slot, visit *made, bool changes) {
     opened *its = handle->at;
     if (its == NULL) return WARM_CLOSED;
@@ -650,7 +650,7 @@ static int step_in(opened *its, shard *in, load *it, bool *found) {
     return status;
 }
 
-/* The shards have turns, also where one is refused: pages of one that cannot be read keep no other
+/* The shards have turns, even if one is refused: pages of one that cannot be read keep no other
  * from being loaded. */
 int warm_step(warm *handle, bool *found, warm_page *page) {
     opened *its = handle->at;

@@ -16,7 +16,7 @@
  *     the heap (heap.c).
  * A call of the engine is made with none of the third kind. A read and a write are made with none
  * at all, and a sync with the second. But warm_replace writes and syncs with those of all shards;
- * and a node writes with its shard's where somebody waits to forget pages (writes.h), where a page
+ * and a node writes with its shard's if somebody waits to forget pages (writes.h), or if a page
  * was written TRIES times in vain (shards.c), or has as many pins as it can have.
  */
 #ifndef SHARDS_H
@@ -37,7 +37,7 @@ typedef struct shard {
     node node;
     reading *reads; /* pages that are being read */
     _Alignas(LINE) pthread_cond_t call_over; /* a read, a write, its copying; a frame may be had */
-    bool may_be_dirty; /* where not, no page is, and the node need not look at each frame */
+    bool may_be_dirty; /* if not, no page is, and the node need not look at each frame */
     unsigned leaving;  /* how many wait for writes, to forget pages or replace a device */
     writing *writes;   /* pages that are being written */
     size_t hand;       /* the frame with which the next portion of a write-back begins */
@@ -45,8 +45,8 @@ typedef struct shard {
 } shard;
 
 /* What is known of a device beside its number. Reads and failures are counted beside those of the
- * nodes: they are made outside. So are writes that failed or were skipped; of others the nodes are
- * told. All flushes are counted here: no node asks for one, but to be replaced or closed. */
+ * nodes: they are made outside. So are writes that failed or were skipped; the nodes count the
+ * others. All flushes are counted here: no node asks for one, but to be replaced or closed. */
 typedef struct known_device {
     int synced_as; /* see devices.h; who is in a shard reads it, who is in all changes it */
     unsigned replaced; /* how often the device was; read and changed as synced_as is */
@@ -75,9 +75,9 @@ typedef struct replica {
 /* What a frame is answered with, frame by frame. */
 typedef struct answers {
     uint64_t buckets; /* bit i: entries of bucket i are still to be sent */
-    uint64_t wanted;  /* the buckets that are asked for after that; 0 where nothing is */
+    uint64_t wanted;  /* the buckets that are asked for after that; 0 if nothing is */
     uint64_t horizon; /* of that request */
-    node_page after;  /* where has_after, the last page of the lowest bucket that was sent */
+    node_page after;  /* if has_after, the last page of the lowest bucket that was sent */
     bool has_after;
 } answers;
 
@@ -87,7 +87,7 @@ typedef struct own_hold {
     uint64_t generation, place, pins;
 } own_hold;
 
-/* How many of its pins in nodes a handle knows: these are taken back where it is abandoned. A node
+/* How many of its pins in nodes a handle knows: these are taken back when it is abandoned. A node
  * does not know whose a pin is, and a pin allocates nothing. So for any number of pins a handle
  * would need room from the start for each frame: a count, and the generation of the page, without
  * which a node takes no pin back. These are 12 bytes: with pages of 4 KiB each handle would have
@@ -112,7 +112,7 @@ typedef struct opened {
     uint64_t longest_wait; /* of a call, in milliseconds (waits.h); UINT64_MAX: no limit */
     bool is_first; /* whether it opened the replica */
     bool has_failed;
-    node_failure failure; /* of a device, in a call of the handle, the last one; where has_failed */
+    node_failure failure; /* of a device, in a call of the handle, the last one; if has_failed */
     uint64_t failed;      /* how many were in that call, or were skipped */
     answers waiting;
     void *block;
@@ -197,7 +197,7 @@ int may_be_device(const warm_device *device, size_t page_size);
 /* Returns how many pages of all shards are dirty. */
 size_t dirty_pages(opened *its);
 
-/* Syncs each device where that waits, with no shard entered, and returns WARM_OK or
+/* Syncs each device that is to be synced, with no shard entered, and returns WARM_OK or
  * WARM_WRITE_FAULT. */
 int sync_devices(opened *its);
 

@@ -102,7 +102,7 @@ static void test_victims(void) {
 
 /* ---- locks ---- */
 
-/* A call that succeeds, and takes this many locks; or none where one handle is open. */
+/* A call that succeeds, and takes this many locks; or none if one handle is open. */
 #define TAKES(locks, call)                                      \
     do {                                                        \
         int before = taken;                                     \

@@ -24,8 +24,8 @@ static uint64_t dirty_set(warm *handle, uint64_t count) {
     return set;
 }
 
-/* A fake node's counts of a device are fixed numbers; what is skipped is counted beside them where
- * it was not the node that asked for it. */
+/* A fake node's counts of a device are fixed numbers; what is skipped is counted beside them if it
+ * was not the node that asked for it. */
 static void has_written(warm *handle, uint64_t writes, uint64_t skips, uint64_t flushes) {
     warm_device_counters of_device;
     warm_counters counters;
@@ -208,7 +208,7 @@ static void test_counted_failures(void) {
     }
 }
 
-/* A miss passes over two pages, also where none is left then; and a read fails. */
+/* A miss passes over two pages, even if none is left then; and a read fails. */
 static void test_counted_misses(void) {
     for (int is_shared = 0; is_shared < 2; is_shared++) {
         own its = {.skips = 3};

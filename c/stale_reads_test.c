@@ -1,6 +1,6 @@
 /*
- * Tests reads with no shard locked (reads.c, write_back.c) over fake_library.h, where something
- * changes meanwhile: what is forgotten, or of a device that is replaced, is read again, and who
+ * Tests reads with no shard locked (reads.c, write_back.c) over fake_library.h, while something
+ * changes: what is forgotten, or of a device that is replaced, is read again, and who
  * forgets or replaces waits for the old read; and handles that are closed.
  */
 #include "callers.h"
@@ -177,7 +177,7 @@ static void test_replacing(void) {
     }
 }
 
-/* Its place is taken by the same descriptor, as where the file has changed: what was read before is
+/* Its place is taken by the same descriptor, as when the file has changed: what was read before is
  * of no use, be it a byte or a failure, and counts no more. Whoever waits for the page has the new
  * byte, and two that replace the device wait for the one old read. */
 static void replacing_by_itself(size_t shards, bool fails) {

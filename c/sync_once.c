@@ -106,8 +106,8 @@ bool sync_is_settled(int fd) {
     return is_so;
 }
 
-/* A descriptor that is counted, which stays there until leave_use, where there is something to
- * do. */
+/* A descriptor that is counted and has something to sync, else NULL. It stays there until
+ * leave_use. */
 static counted *use(int fd, bool *is_counted) {
     pthread_mutex_lock(&chains_lock);
     counted *its = *place_of(fd);

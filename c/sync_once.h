@@ -12,7 +12,7 @@
 /* A descriptor that a thread is about to sync, or is syncing. */
 typedef struct counted sync_use;
 
-/* Counts one more device with this descriptor; false where there is no memory for it. */
+/* Counts one more device with this descriptor; false if there is no memory for it. */
 bool sync_add(int fd);
 
 /* Counts one less. What is known of the descriptor is forgotten with the last one: its file was
@@ -25,17 +25,17 @@ void sync_wrote(int fd);
 
 /* From here on sync_once of this thread leaves a descriptor that is counted alone and returns 0,
  * or, with false, syncs it again. Returns what was so before. Who leaves out syncs makes them
- * before a caller is told of one: so no lock of a shard is held meanwhile. */
+ * before a caller gets a result: so no lock of a shard is held meanwhile. */
 bool sync_later(bool is_later);
 
 /* Syncs the descriptor (fsync), unless nothing was written to it since its last sync that succeeded
- * began; -1 with errno where that fails. Where a sync has failed while the descriptor was counted,
- * each later one fails, with the same errno. One thread at a time syncs a descriptor. Of one that
- * is not counted nothing is known, and each sync is made. */
+ * began; -1 with errno if that fails. If a sync has failed while the descriptor was counted, each
+ * later one fails, with the same errno. One thread at a time syncs a descriptor. Of one that is not
+ * counted nothing is known, and each sync is made. */
 int sync_once(int fd);
 
-/* The two halves of that, for a descriptor that is counted: NULL where there is nothing to sync,
- * and no sync of it has failed. What was taken is synced, by sync_taken: it says whether a sync was
+/* The two halves of that, for a descriptor that is counted: NULL if there is nothing to sync, and
+ * no sync of it has failed. What was taken is synced, by sync_taken: it says whether a sync was
  * made, or failed before. Between the two the descriptor may be let go: it is not synced then. */
 sync_use *sync_take(int fd);
 bool sync_is_settled(int fd); /* whether it is NULL */

@@ -1,6 +1,6 @@
 /*
  * Tests sync_once.c, and what shards.c and whole_calls.c do to devices, over fake_library.h: what
- * is synced, once and with no shard entered, what is written where something fails, what leaves
+ * is synced, once and with no shard entered, what is written if something fails, what leaves
  * then, and devices that are replaced.
  */
 #include "fake_library.h"
@@ -299,7 +299,7 @@ static void write_meanwhile(int fd) {
 }
 
 /* No shard is entered during a sync, and a file is synced once, whatever is written meanwhile; also
- * where one handle is open. */
+ * if one handle is open. */
 static void test_syncs_without_shards(void) {
     for (size_t count = 1; count <= 16; count *= 4) {
         warm first = {0}, second = {0};
@@ -426,7 +426,7 @@ static bool is_dirty(warm *handle, warm_page page) {
 }
 
 /* A page that fails keeps no other from being written; none is tried twice. The first failure is
- * that of the call. A device is not synced where a write has failed. */
+ * that of the call. A device is not synced if a write has failed. */
 static void write_stuck(warm *handle, int call, int32_t error) {
     static const int by_call[3] = {1, 0, 0}, failures[3] = {3, 2, 3};
     size_t left = 77;
@@ -560,7 +560,7 @@ static void test_turns_in_shard(void) {
     }
 }
 
-/* One page is written where it is dirty, with no sync; where it cannot be, it is dirty as
+/* One page is written if it is dirty, with no sync; if it cannot be, it is dirty as
  * before. */
 static void write_one(size_t count) {
     const warm_page page = {.no = 2 * count - 2}, last = {.no = 2 * count - 1};

@@ -60,7 +60,7 @@ uint32_t nobody_wants(void) {
     return system_does(MEMBARRIER_CMD_REGISTER_PRIVATE_EXPEDITED) ? 0 : ORDERS_ITSELF;
 }
 
-/* Where somebody wants a frame already, the system need not do it again: who found that nobody does
+/* If somebody wants a frame already, the system need not do it again: who found that nobody does
  * had given up its hold before. If it has no memory for it, this wait may last until a write is
  * over. */
 void begin_to_want(shard *in) {

@@ -8,8 +8,8 @@
 
 /* ---- one write ---- */
 
-/* Who meets a page that another call writes waits, and does not write it where it is clean then; it
- * does where it is dirty. */
+/* Who meets a page that another call writes waits, and does not write it if it is clean then; it
+ * does if it is dirty. */
 static bool is_first_try(node_page page) {
     if (page.no != 0) return false;
     is_stuck = NULL;
@@ -43,8 +43,8 @@ static void test_two_writers(void) {
         for (int way = 0; way < 4; way++) two_writers(call, way % 2 == 1, way > 1);
 }
 
-/* All that wait for one write are told when it is over: one of them writes the page, where that is
- * dirty then, and the others do not write it once more. */
+/* All that wait for one write are woken when it is over: one of them writes the page, if it is
+ * dirty then, and the others do not write it again. */
 static void test_two_waiters(void) {
     for (int fails = 0; fails < 2; fails++) {
         open_dirty(1);
@@ -206,7 +206,7 @@ static void end_busy(pthread_t busy) {
 }
 
 /* The first write does not have a change that is over when the call begins, and the second one
- * has. Where that fails the page is not written, and the call says so. */
+ * has. If that fails, the page is not written, and the call says so. */
 static void beside_busy(int call, bool fails) {
     caller *its = &callers[1];
     pthread_t busy;

@@ -300,7 +300,7 @@ static int read_message(
     return node_read_frame(its->count, limit, horizon_limit, message, length, what);
 }
 
-/* Whether the history has room for so many entries, each of which may be of a new page. */
+/* Whether the history has room for this many entries, each of which may be of a new page. */
 static int keeps_pages(warm *handle, size_t entries) {
     size_t known, limit = atomic_load(&((opened *)handle->at)->of->page_limit);
     if (limit == SIZE_MAX || entries == 0) return WARM_OK;

@@ -29,7 +29,7 @@ static void test_batches(void) {
     OK(warm_abandon(&handle));
 }
 
-/* More references than are put in order on the stack: all or none of them, where the copy finds no
+/* More references than are put in order on the stack: all of them, or none if the copy finds no
  * memory; one shard's as they are. */
 static void test_great_batches(void) {
     enum { MANY = BATCH_ROOM + 44 };

@@ -13,9 +13,9 @@
 
 /* ---- dirty pages of a shard ---- */
 
-/* Which pages are to be written: of this device, or of all where it is ALL; how many at most; and
- * how many were, and what the call is refused with. A walk may pass pages that another call writes,
- * for which it would wait; another one means the frames alone that had these. */
+/* Which pages are to be written: of this device, or of all if it is ALL; how many at most; and how
+ * many were, and what the call is refused with. A walk may pass pages that another call writes, for
+ * which it would wait; another one means the frames alone that had these. */
 enum { ALL = -1 };
 
 typedef struct walk {
@@ -28,8 +28,8 @@ typedef struct walk {
 
 static void set_bit(uint8_t *bits, size_t at) { bits[at / 8] |= (uint8_t)(1 << at % 8); }
 
-/* The call is refused with its first failure; with a page that was skipped, only where nothing has
- * failed. Where a write has failed, its device is not synced by this call: the descriptor may be
+/* The call is refused with its first failure; with a page that was skipped, only if nothing has
+ * failed. If a write has failed, its device is not synced by this call: the descriptor may be
  * another file's by now, or none, and a sync that fails is remembered. A page that was skipped says
  * nothing of the descriptor. */
 static void add_unwritten(opened *its, node_page page, int error, int *all) {
@@ -60,8 +60,8 @@ static int write_by_node(shard *in, node_page page) {
 
 /* Writes a page that is dirty, and that others may change and write meanwhile, as often as they
  * like. What is owed is a write that has copied the page since the call began:
- *  - A write that is under way may have copied it before. Where the page is dirty after that write,
- *    as it failed, or the page was changed, it is written here.
+ *  - A write that is under way may have copied it before. If the page is dirty after that write, as
+ *    it failed, or the page was changed, it is written here.
  *  - Unless another call was first: that write has begun since, so what comes of it is what comes
  *    of this call, and the page may be dirty after it. No third one is waited for.
  * A page that has left its frame meanwhile was written to leave. */
@@ -127,8 +127,8 @@ static void write_passed(opened *its, shard *in, bool is_locked, walk *of) {
 
 /* Begins behind where the last portion of the shard ended, and goes on from the first frame: so no
  * page waits for ever behind those that are changed again, or cannot be written. Pages that another
- * call writes are waited for in the end, where there are not enough others: else a portion would
- * wait for each page of a write-back of all. No page that has failed is tried again. */
+ * call writes are waited for in the end, if there are not enough others: else a portion would wait
+ * for each page of a write-back of all. No page that has failed is tried again. */
 static void write_from_hand(opened *its, shard *in, bool is_locked, walk *of) {
     size_t first = in->hand;
     of->means = PASSES;
@@ -151,7 +151,7 @@ static size_t write_portion(opened *its, shard *in, walk *of) {
     return left;
 }
 
-/* Each shard behind that of the last portion has its turn, also where one before it is refused. */
+/* Each shard behind that of the last portion has its turn, even if one before it is refused. */
 int warm_write_back_some(warm *handle, size_t limit, size_t *left) {
     opened *its = handle->at;
     size_t all = 0;
@@ -205,7 +205,7 @@ static void write_shard(opened *its, shard *in, walk *of) {
     leave(in, is_locked);
 }
 
-/* Syncs what was taken, if it was, and counts that; also where it is refused since a sync failed
+/* Syncs what was taken, if it was, and counts that, even if it is refused because a sync failed
  * before. A failure is noted: in place of a page that was skipped, too. */
 static void sync_and_count(opened *its, uint16_t dev, sync_use *taken, int *all) {
     known_device *known = &its->of->known[dev];
@@ -221,7 +221,7 @@ static void sync_and_count(opened *its, uint16_t dev, sync_use *taken, int *all)
     note_failure(its, (node_page){.dev = dev}, WARM_FAILED_FLUSH, error);
 }
 
-/* Syncs a device where that waits, with no shard entered. A thread that replaces the device
+/* Syncs a device that is to be synced, with no shard entered. A thread that replaces the device
  * meanwhile has synced it before. */
 static void sync_device(opened *its, uint16_t dev, int *all) {
     shard *in = &its->shards[0];
@@ -277,7 +277,7 @@ static void leave_all(opened *its, bool are_locked) {
     for (size_t number = its->count; number-- > 0;) leave(&its->shards[number], are_locked);
 }
 
-/* The same, where no page of a device is being written, with this number and above: else waits for
+/* The same, if no page of a device is being written, with this number and above: else waits for
  * that, with the shards left. Meanwhile none begins to be. */
 static bool enter_all_unwritten(opened *its, uint16_t dev, uint64_t from) {
     bool are_locked = enter_all(its), is_any = false;
@@ -331,7 +331,7 @@ int warm_forget_pages(warm *handle, uint16_t dev, uint64_t from) {
 /* ---- a device in place of another ---- */
 
 /* What came of a call of the node's. A flush of its that failed is counted here as others are:
- * where it did not, the device is replaced, and its counts begin again. */
+ * if it did not, the device is replaced, and its counts begin again. */
 static int noted_and_counted(opened *its, shard *in, uint16_t dev, int status) {
     noted(its, in, status);
     if (status == WARM_WRITE_FAULT) count_failure(its, WARM_OK);

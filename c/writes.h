@@ -17,8 +17,8 @@
  *
  * An entry of the list is on the stack of the call that writes, which waits for nobody before it
  * has taken the entry from the list: so whoever waits for one waits for a device, or for the
- * engine's functions, alone. It is told when that write is over, and what came of it: later ones of
- * the page do not keep it. A handle that is alone meets no other one here: its nodes write.
+ * engine's functions, alone. The write says to those that wait what came of it, so no later one of
+ * the page keeps them. A handle that is alone meets no other one here: its nodes write.
  */
 #ifndef WRITES_H
 #define WRITES_H
@@ -50,17 +50,16 @@ typedef struct writing {
 /* All is called by who is in the shard. */
 
 /* Writes a page that is dirty, and that nobody writes. The shard is locked, and left meanwhile.
- * What came of it is 0; EAGAIN where before_write skipped the page; or another errno: with both the
- * page is dirty as before. False where it cannot be written so now, and nothing was done. */
+ * What came of it is 0; EAGAIN if before_write skipped the page; or another errno: with both the
+ * page is dirty as before. False if it cannot be written so now, and nothing was done. */
 bool write_outside(struct opened *its, struct shard *in, node_page page, int *error);
 
-/* The entry of a page, or of the page of a slot, where one is being written; or NULL. */
+/* The entry of a page, or of the page of a slot, if one is being written; or NULL. */
 writing *write_of_page(const struct shard *in, node_page page);
 writing *write_of_slot(const struct shard *in, node_slot slot);
 
-/* WARM_OK where a page with this entry, or with none (NULL), may be changed. Where it was not
- * copied yet, waits for that, and returns READ_AGAIN: its entry is to be looked for again; or
- * WARM_BUSY. */
+/* WARM_OK if a page with this entry, or with none (NULL), may be changed. If it was not copied yet,
+ * waits for that, and returns READ_AGAIN: its entry is to be looked for again; or WARM_BUSY. */
 int may_change(const struct opened *its, struct shard *in, writing *at, patience *left);
 
 /* Notes that it was changed: a call that is refused leaves it as it was. */

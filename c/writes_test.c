@@ -178,7 +178,7 @@ static void test_named_victims(void) {
     }
 }
 
-/* A clean page leaves at once, and where a frame has none none leaves. */
+/* A clean page leaves at once, and if a frame has none, none leaves. */
 static void test_clean_victims(void) {
     open_all(1, 2);
     for (uint64_t no = 0; no < 2; no++) write_to(&first, page_at(no), 'd');
@@ -476,8 +476,9 @@ static void test_passing_over(void) {
 
 /* ---- who waits ---- */
 
-/* Who forgets pages, or replaces their device, waits until none of them is written, and is not told
- * that it is pinned. Meanwhile a page that is to be written is written with the shard locked. */
+/* Who forgets pages, or replaces their device, waits until none of them is being written, and does
+ * not get the answer that one is pinned. Meanwhile a page that is to be written is written with the
+ * shard locked. */
 static void leaving_meanwhile(int call) {
     open_dirty(4);
     stop_writes_of(bit(1));
@@ -565,8 +566,8 @@ static void test_leaving_meanwhile(void) {
     }
 }
 
-/* Where no page could leave but those that are written, who needs a frame waits for it; and where
- * there is none either, it is told so at once. */
+/* If no page could leave but those that are being written, whoever needs a frame waits for one of
+ * them. If there is none of these either, it is refused at once. */
 static void test_no_other_frame(void) {
     for (int call = PINS; call <= STEPS; call++) {
         open_dirty(2);
@@ -646,7 +647,7 @@ static void test_held_meanwhile(void) {
     }
 }
 
-/* The same, where it is so only once the page was read. */
+/* The same, if it is so only once the page was read. */
 static void test_no_other_frame_then(void) {
     for (int is_first_clean = 0; is_first_clean < 2; is_first_clean++) {
         open_all(1, 1);

@@ -160,7 +160,7 @@ typedef struct warm_slot {
    skip this page now, as its latch is held or its log not synced; an errno: the write fails. A
    skipped page stays dirty. Calls that change the page wait for the answer, other calls seldom: so
    it may sync a log.
-   after_write, if not null, is told the error (or 0) of each write that was made, by the thread
+   after_write, if not null, gets the error (or 0) of each write that was made, by the thread
    that asked before_write.
    Any thread that uses the replica may call them, several at once, for different pages.
    Caller: they return, call nothing of this replica, wait for no thread that does, and keep no
@@ -284,7 +284,7 @@ int warm_bytes(warm *handle, warm_slot slot, const uint8_t **bytes);
 int warm_bytes_mut(warm *handle, warm_slot slot, uint8_t **bytes);
 
 /* Makes the slot's page dirty, after writing by a pointer and before its latch is released, also
-   where it is called again after WARM_BUSY.
+   if it is called again after WARM_BUSY.
    Refused: WARM_STALE_SLOT. */
 int warm_mark_dirty(warm *handle, warm_slot slot);
 

@@ -19,7 +19,7 @@ fn main() {
 /// The folder of the installed library.
 fn installed() -> PathBuf {
     let asked = Command::new("pkg-config").args(["--variable=libdir", "warm"]).output();
-    let answer = asked.expect("pkg-config is needed where WARM_LIB is not set");
+    let answer = asked.expect("pkg-config is needed if WARM_LIB is not set");
     assert!(
         answer.status.success(),
         "pkg-config does not know warm: set WARM_LIB or PKG_CONFIG_PATH"

@@ -13,8 +13,8 @@ macro_rules! statuses {
         #[non_exhaustive]
         pub enum Error {
             $($(#[$doc])* $name,)*
-            /// The bytes of the page are in use: it has a [`Pin`](crate::Pin) where a
-            /// [`PinMut`](crate::PinMut) is wanted, or a `PinMut`. Nothing waits for it longer than
+            /// The bytes of the page are in use: it has a [`PinMut`](crate::PinMut), or a
+            /// [`Pin`](crate::Pin) and a `PinMut` is wanted. Nothing waits for it longer than
             /// [`Options::latch_wait`](crate::Options::latch_wait) says.
             Latched,
             /// A device of the replica is in a call of this thread: such a call may use no handle
@@ -27,7 +27,7 @@ macro_rules! statuses {
         }
 
         impl Error {
-            /// The number of the status in warm.h; none where the crate refused the call itself.
+            /// The number of the status in warm.h; none if the crate refused the call itself.
             pub fn status(self) -> Option<i32> {
                 match self {
                     $(Error::$name => Some($number),)*

@@ -184,7 +184,7 @@ impl fmt::Display for CloseError {
 impl std::error::Error for CloseError {}
 
 impl Handle {
-    /// Opens a replica. Where it is refused the devices are dropped.
+    /// Opens a replica. If it is refused, the devices are dropped.
     ///
     /// Refused: [`Error::BadShards`], [`Error::UnevenFrames`], [`Error::BadReplica`],
     /// [`Error::BadFrames`], [`Error::BadPageSize`], [`Error::BadDevice`], [`Error::Appends`],
@@ -236,8 +236,8 @@ impl Handle {
     /// opened the replica after the threads of the others were joined.
     ///
     /// Refused, with the handle in the error: [`Error::Attached`] of the handle that opened the
-    /// replica where there are others; [`Error::PinsLeft`] where a pin was leaked (`mem::forget`);
-    /// of the last one [`Error::Dirty`], and [`Error::WriteFault`] where a flush fails.
+    /// replica if there are others; [`Error::PinsLeft`] if a pin was leaked (`mem::forget`); of the
+    /// last one [`Error::Dirty`], and [`Error::WriteFault`] if a flush fails.
     pub fn close(self) -> std::result::Result<(), CloseError> {
         self.end(ffi::warm_close)
     }

@@ -64,7 +64,7 @@ pub struct Failure {
     pub what: Failed,
     /// The page; of a flush its number is 0.
     pub page: Page,
-    /// The errno; EAGAIN (11) where the page was skipped.
+    /// The errno; EAGAIN (11) if the page was skipped.
     pub error: i32,
     /// How many failed or were skipped in the same call of the handle.
     pub count: u64,
@@ -82,15 +82,15 @@ pub enum Failed {
 impl Handle {
     /// Writes all dirty pages, and then flushes the devices.
     ///
-    /// Refused: [`Error::WriteFault`] where a write or a flush failed, [`Error::Skipped`] where a
-    /// device skipped pages. All else was written.
+    /// Refused: [`Error::WriteFault`] if a write or a flush failed, [`Error::Skipped`] if a device
+    /// skipped pages. All else was written.
     pub fn write_back_all(&self) -> Result<()> {
         let raw = self.enter()?;
         // SAFETY: the handle is open; no page has its bytes written to but by the library itself.
         result(unsafe { ffi::warm_write_back_all(raw) })
     }
 
-    /// Writes at most so many dirty pages, flushes nothing, and returns how many are left.
+    /// Writes at most this many dirty pages, flushes nothing, and returns how many are left.
     ///
     /// Refused: [`Error::WriteFault`], [`Error::Skipped`].
     pub fn write_back_some(&self, limit: usize) -> Result<usize> {
@@ -101,7 +101,7 @@ impl Handle {
         Ok(left)
     }
 
-    /// Writes a page where it is in a frame and dirty, flushes nothing, and returns whether it did.
+    /// Writes a page if it is in a frame and dirty, flushes nothing, and returns whether it did.
     ///
     /// Refused: [`Error::WriteFault`], [`Error::Skipped`].
     pub fn write_back_page(&self, page: Page) -> Result<bool> {
@@ -141,7 +141,7 @@ impl Handle {
 
     /// The pages of a shard that would be evicted next, in order, 64 at most.
     ///
-    /// Refused: [`Error::NoShard`], [`Error::AllPinned`] where too many pages are pinned to look.
+    /// Refused: [`Error::NoShard`], [`Error::AllPinned`] if too many pages are pinned to look.
     pub fn victims(&self, shard: usize) -> Result<Vec<Page>> {
         let raw = self.enter()?;
         pages(ffi::VICTIMS, |pages, room, count| {
@@ -190,7 +190,7 @@ impl Handle {
         Ok(horizon)
     }
 
-    /// The hottest pages of the history, hottest first, so many at most.
+    /// The hottest pages of the history, hottest first, this many at most.
     ///
     /// Refused: [`Error::Memory`].
     pub fn list(&self, room: usize) -> Result<Vec<Page>> {
@@ -351,7 +351,7 @@ fn pages(
     Ok(pages)
 }
 
-/// A message that a call writes. Where the call is refused it is empty.
+/// A message that a call writes. If the call is refused, it is empty.
 fn fill(
     message: &mut Vec<u8>,
     write: impl FnOnce(*mut c_void, usize, *mut usize) -> c_int,

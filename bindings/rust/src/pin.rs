@@ -11,7 +11,7 @@ use crate::{ffi, Handle};
 /// A latch of a frame: how many read the bytes of its page, or `WRITER`, and above that which page,
 /// by its generation. The library keeps the bytes of a pinned page where they are, and changes them
 /// in `warm_write` and `warm_pin_zeroed` alone, which the crate calls for a page with a
-/// `WriteLatch`, or where nobody can have a pin. Who has the latch has a pin, so that no other page
+/// `WriteLatch`, or if nobody can have a pin. Who has the latch has a pin, so that no other page
 /// gets the frame. So the latch of another page is of no account: its pin was leaked, and the
 /// handle of that has ended.
 #[derive(Default)]
@@ -55,7 +55,7 @@ impl Latch {
         self.takes(generation, patience, claim).then(|| WriteLatch(self))
     }
 
-    /// The latch where nobody can use one: who has it has leaked it.
+    /// The latch if nobody can use one: who has it has leaked it.
     pub fn seize(&self, generation: u64) -> WriteLatch<'_> {
         self.0.swap(latch_at(generation, WRITER), Ordering::Acquire);
         WriteLatch(self)
@@ -187,9 +187,9 @@ impl fmt::Debug for Pin<'_> {
 /// the page before or after, and needs not wait. The page is dirty then. A panic that drops it
 /// writes what it has by then.
 ///
-/// It is dropped where its handle is used. In a call of a device of the replica itself, which may
-/// not use the handle, and where the thread has less stack left than a call needs, what was written
-/// is lost, and the page stays pinned.
+/// Its drop is a call of its handle. In a call of a device of the replica itself, which may not use
+/// the handle, or if the thread has less stack left than a call needs, what was written is lost,
+/// and the page stays pinned.
 #[must_use]
 pub struct PinMut<'h> {
     // dropped in this order, after drop()

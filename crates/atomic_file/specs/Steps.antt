@@ -1,4 +1,4 @@
--- Which steps may fail where.
+-- Which steps may fail as a draft is made, and which as it is put in place of the file.
 use Rattle.std.specs.Prelude.{⊤}
 use Rattle.atomic_file.specs.declared.fault.FileStep.{FileStep}
 use Rattle.atomic_file.specs.declared.fault.FileStep.TheVariants.{Target, Folder, Create, Sync}

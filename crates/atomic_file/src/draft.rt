@@ -165,7 +165,7 @@ impl<'a, R: Files> Drop for Draft<'a, R> {
             file: _,
             folder: _,
         } = self;
-        // Where it cannot be removed it stays, as after a kill.
+        // If it cannot be removed, it stays, as after a kill.
         let _ = files.remove_file(path.as_str());
     }
 }

@@ -14,7 +14,7 @@ pub struct Target {
     pub permissions: Option<Permissions>,
 }
 
-// The path, or where it is a symbolic link, that of the file that it leads to.
+// The path, or if it is a symbolic link, that of the file that it leads to.
 fn resolved<R: Files>(files: &R, alloc: Global, path: &str) -> io::Result<String> {
     if let Ok(found) = fs::symlink_metadata(files, path) {
         if found.is_symlink() {
@@ -24,7 +24,7 @@ fn resolved<R: Files>(files: &R, alloc: Global, path: &str) -> io::Result<String
     Ok(String::from_str(alloc, path)?)
 }
 
-// The permissions of the file, where there is one. What is there and is no regular file is refused.
+// The permissions of the file, if there is one. Anything else than a regular file is refused.
 fn permissions_of<R: Files>(files: &R, path: &str) -> io::Result<Option<Permissions>> {
     match fs::metadata(files, path) {
         Ok(found) => {

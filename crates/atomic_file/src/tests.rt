@@ -34,7 +34,7 @@ const OTHER: u64 = 0xF;
 #[derive(Drop)]
 struct FileNote {
     asked: Cell<u64>,
-    // Hexadecimal digits: what fails, where it is not 0.
+    // What fails, in hexadecimal digits; 0 if nothing is to fail.
     failing: u64,
     // How many names are taken.
     taken: Cell<u64>,
@@ -195,8 +195,7 @@ impl<'a> Files for NotedFiles<'a> {
     }
 }
 
-// Replaces a file. `None` where its bytes could not be written; else the step that failed, where
-// one did.
+// Replaces a file. `None` if its bytes could not be written; else the step that failed, if one did.
 fn replaced(alloc: Global, note: &FileNote) -> Option<Option<FileStep>> {
     let files = NotedFiles { note };
     let mut draft = match Draft::create(&files, alloc, "place/file", 7) {

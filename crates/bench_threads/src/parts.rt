@@ -9,8 +9,8 @@ pub(crate) fn next(drawn: u64) -> u64 {
         .wrapping_add(1_442_695_040_888_963_407)
 }
 
-// A checksum with one more item. Checksums are printed, so that results are used, and differ where
-// the order differs.
+// A checksum with one more item. Checksums are printed, so that results are used, and differ if the
+// order differs.
 pub(crate) fn added(checksum: u64, item: u64) -> u64 {
     checksum.wrapping_mul(31).wrapping_add(item)
 }

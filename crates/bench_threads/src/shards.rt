@@ -205,7 +205,7 @@ fn timed<T: Clock, M: Measured>(rt: &T, on: &mut M, id: ReplicaId, load: Load) -
     })
 }
 
-// The run of this many shards, or of a plain node where the count is 0.
+// The run of this many shards, or of a plain node if the count is 0.
 fn run_of<T: Clock + AllocGlobal>(rt: &T, count: u64, load: Load) -> Result<Run> {
     let id = replica(1)?;
     if count == 0 {

@@ -7,7 +7,7 @@
 //! thread come last; the pages are a power of two up to 65,536.
 //!
 //! - `SHARDS THREADS PAGES HITS`: 1, 2 or 4 threads over shared shards.
-//! - `look SHARDS THREADS PAGES HITS`: the same, where a hit is a look at the bytes where they lie.
+//! - `look SHARDS THREADS PAGES HITS`: the same, but a hit is a look at the bytes where they lie.
 //! - `alone SHARDS PAGES HITS`: one thread over shards that no thread shares, without turns.
 //! - `node PAGES HITS`: one thread over a node.
 //!
@@ -199,7 +199,7 @@ fn hit_shared<R: Wait>(
     Ok(checksum)
 }
 
-// The hits of the thread of this number, and their checksum, or `None` where one was refused.
+// The hits of the thread of this number, and their checksum, or `None` if one was refused.
 fn hit_by_one<R: Wait>(
     rt: &R,
     shared: &SharedShards<Numbered>,
@@ -214,8 +214,8 @@ fn hit_by_one<R: Wait>(
     (attached, checksum.ok())
 }
 
-// Ends what another thread has into what this one has, and returns the sum of both checksums where
-// no hit was refused.
+// Ends what another thread has into what this one has, and returns the sum of both checksums if no
+// hit was refused.
 fn both(
     shared: &SharedShards<Numbered>,
     mut attached: Attached<Numbered>,

@@ -77,7 +77,7 @@ impl Visit<Counter> for AddOne {
     }
 }
 
-// The nanoseconds since then, or 0 where the clock fails.
+// The nanoseconds since then, or 0 if the clock fails.
 fn nanos_since<R: Clock>(rt: &R, start: io::Result<Instant>) -> u64 {
     let Ok(start) = start else {
         return 0;
@@ -88,7 +88,7 @@ fn nanos_since<R: Clock>(rt: &R, start: io::Result<Instant>) -> u64 {
     }
 }
 
-// Takes this many turns, and returns the nanoseconds of the longest of them, or 0 where that is not
+// Takes this many turns, and returns the nanoseconds of the longest of them, or 0 if that is not
 // requested.
 fn add_ones<M: Machine<Call = Add, Reply = Added>, R: Wait + Clock>(
     rt: &R,
@@ -304,8 +304,8 @@ fn count_slowly<R: Threads + Wait + Clock + Sync>(
     Ok((slow.counter.total, longest))
 }
 
-// Runs the crowd, and prints the total, the time it took, and the time of the longest call where
-// that was requested.
+// Runs the crowd, and prints the total, the time it took, and the time of the longest call if that
+// was requested.
 fn time<R: Threads + Wait + Clock + Print + AllocGlobal + Sync>(
     rt: &R,
     clock: HostRuntime,

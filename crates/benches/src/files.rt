@@ -10,7 +10,7 @@ use warm_dump::{read_dump, write_dump};
 use warm_history::History;
 use warm_stamps::{PageId, ReplicaId};
 
-// How many pages a dump has where nothing is asked for.
+// How many pages a dump has if no number is given.
 const FEW: u64 = 1_000;
 
 // A history of this many pages of one device, with two stamps each.

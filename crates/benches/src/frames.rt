@@ -20,7 +20,7 @@ const FULL: u32 = 1000;
 
 const MANY: u32 = 100_000;
 
-// The number of frames of the stream where times are measured, and the size of its pieces in bytes.
+// The number of frames of the stream whose times are measured, and the size of its pieces in bytes.
 const STREAM: u64 = 1000;
 
 const PIECES: [usize; 4] = [1, 64, 4_096, 65_536];
@@ -121,7 +121,7 @@ fn stream_of(alloc: Global, bytes: &[u8], frames: u64) -> Result<Vec<u8>> {
     Ok(stream)
 }
 
-// The number of entries of a message, where there is one.
+// The number of entries of a message, if there is one.
 fn entries_in(message: Option<BoxedMessage>) -> u64 {
     let Some(message) = message else {
         return 0;

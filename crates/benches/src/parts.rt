@@ -10,7 +10,7 @@ use warm_stamps::{PageId, Reference, ReplicaId, Stamp};
 // The page size of a node in bytes.
 const NODE_PAGE_SIZE: usize = 16;
 
-// The number that is the only argument, where there is one.
+// The number that is the only argument, if there is one.
 pub(crate) fn asked_number(words: &[String], what: &'static str) -> Result<Option<u64>> {
     match words {
         [] => Ok(None),
@@ -26,8 +26,8 @@ pub(crate) fn next(drawn: u64) -> u64 {
         .wrapping_add(1_442_695_040_888_963_407)
 }
 
-// A checksum with one more item. Checksums are printed, so that results are used, and differ where
-// the order differs.
+// A checksum with one more item. Checksums are printed, so that results are used, and differ if the
+// order differs.
 pub(crate) fn added(checksum: u64, item: u64) -> u64 {
     checksum.wrapping_mul(31).wrapping_add(item)
 }

@@ -85,8 +85,8 @@ fn load_apart(pool: &mut Pool<MemDevice>, history: &History) -> Result<(), PoolF
 }
 
 // Reads the pages from the number of frames up to another number, and returns a checksum of the
-// bytes read. Where the first pages are resident and ranks rise with the page numbers, each is a
-// miss, and the page of the least number is evicted.
+// bytes read. If the first pages are resident and ranks rise with the page numbers, each is a miss,
+// and the page of the least number is evicted.
 fn miss_often(pool: &mut Pool<MemDevice>, history: &History, pages: u64) -> Result<u64, PoolFault>
     requires { RankedBy pool.old history.now }
     ensures { RankedBy pool.new history.now }
@@ -179,7 +179,7 @@ fn references(alloc: Global, pages: u64) -> Result<History> {
     Ok(history)
 }
 
-// Fills a page of a device with the lowest byte of its number, where it has such a page.
+// Fills a page of a device with the lowest byte of its number, if it has such a page.
 fn fill(device: &mut MemDevice, no: u64) -> Result<()> {
     if no >= device.pages() || device.page_size() != PAGE_SIZE {
         bail!("there is no such page")

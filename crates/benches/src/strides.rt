@@ -1,5 +1,5 @@
 //! Measures the time to find the pages of a full pool, by the distance of their numbers. A page is
-//! found along its hash chain in the pool's page table, so it takes longer where many pages share a
+//! found along its hash chain in the pool's page table, so it takes longer if many pages share a
 //! chain.
 //!
 //! `benches pool strides` and a number of frames prints the nanoseconds of 16 searches for each

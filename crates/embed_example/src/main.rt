@@ -32,7 +32,7 @@ const SCAN: [u64; 8] = [10, 11, 12, 13, 14, 15, 16, 17];
 // The accesses after the takeover.
 const AFTER: [u64; 6] = [2, 4, 1, 3, 2, 1];
 
-// The maximum number of gossip rounds. Where all messages arrive, one round makes them equal.
+// The maximum number of gossip rounds. If all messages arrive, one round makes them equal.
 const MAX_ROUNDS: u32 = 3;
 
 // A page of device 0.

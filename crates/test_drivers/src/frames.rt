@@ -3,7 +3,7 @@
 //! Each line of the text is a number and bytes in hexadecimal. For each a line is printed:
 //! the result of `decode` for the bytes; then, after `|`, the results of a `Decoder` that is fed
 //! pieces of that many bytes, and its result at the end. A frame is printed with its fields except
-//! the horizon, and with `same` where `encode` gives the bytes that it was read from, horizon
+//! the horizon, and with `same` if `encode` gives the bytes that it was read from, horizon
 //! included: those of a frame of the format `L2G2`. A frame of `L2G1`, which is only read, is
 //! `other`. `checks/damaged-frames/check` compares with a reader of its own.
 

@@ -44,13 +44,13 @@ fn each_beginning_is_cut_short(rt: HostRuntime) {
 // The header of the digests ends here.
 const HEADERS: usize = SECOND + 19;
 
-// Ends the test where its test case of this value at this place does not hold: the only place where
+// Ends the test if its test case of this value at this place does not hold: the only place where
 // both are formatted, which is expensive to prove.
 fn change_holds(rt: &impl Abort, place: usize, value: u8, is_so: bool) {
     assert!(rt; is_so, "{place} {value}");
 }
 
-// Whether a value of the byte at a place, where it changes the byte, gives the history. None gives
+// Whether a value of the byte at a place, if it changes the byte, gives the history. None gives
 // another.
 fn is_accepted(
     rt: &impl Abort,

@@ -116,7 +116,7 @@ fn the_least_of_three_keys_is_found(rt: HostRuntime) {
     assert!(rt; contest.least() == Some(0));
 }
 
-// Sets the key of one of three slots, where it is less.
+// Sets the key of one of three slots, if it is less.
 fn lower_of_three(contest: &mut Contest, slot: usize, key: Option<RankKey>)
     requires three { length contest.old ≡ 3 }
     requires one { slot < 3 }

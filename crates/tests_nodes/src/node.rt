@@ -1,7 +1,7 @@
 //! One node: lists of calls, each with its expected reply.
 //!
 //! Each call is in a function of its own, so that the proof of a test does not grow with its test
-//! cases (`Row`). What must not fail ends the process where it does: a `?` would be one more exit
+//! cases (`Row`). What must not fail ends the process if it does: a `?` would be one more exit
 //! path, on which the drops of all owned values are proved.
 
 mod dropped;

@@ -106,7 +106,7 @@ pub(crate) fn texts_of(
     (schedule, want)
 }
 
-// Ends the test where its test case of this line does not hold: the only place where a line is
+// Ends the test if its test case of this line does not hold: the only place where a line is
 // formatted, which is expensive to prove.
 pub(crate) fn line_holds(rt: &impl Abort, line: &str, is_so: bool) {
     assert!(rt; is_so, "{line}");

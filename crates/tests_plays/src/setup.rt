@@ -15,7 +15,7 @@ const SEVENTEEN: &str =
 const WHOLE: &str =
     "workers = 16\nreplicas = 64\npage_size = 65536\nframes = 65536\nbuffer = 1024\n[[device]]\npages = 1048576\n[[device]]\npath = \"a/b\"\npages = 1\n";
 
-// Whether a path is this text, or no path where none is wanted.
+// Whether a path is this text, or no path if none is wanted.
 pub(crate) fn is_path(path: &Option<PathText>, want: Option<&str>) -> bool {
     match (path, want) {
         (Some(path), Some(want)) => path.as_str() == want,

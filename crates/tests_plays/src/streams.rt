@@ -33,8 +33,8 @@ fn a_schedule_may_come_in_bytes(rt: HostRuntime) {
     trickles(&rt, rt.alloc(), schedule.as_slice(), want.as_slice());
 }
 
-// Where lines are read in pieces, the answer to each is flushed separately, and nothing is flushed
-// in the middle of a line.
+// If lines are read in pieces, the answer to each is flushed separately, and nothing is flushed in
+// the middle of a line.
 #[test]
 fn answers_are_flushed_before_the_next_read(rt: HostRuntime) {
     let mut reader = TrickleReader::new(b"show 1\nshow 9\nx");
@@ -90,8 +90,7 @@ fn draw<W: Write>(writer: &mut W, events: u32) -> Result<(), PlayFault> {
     random_schedule(writer, 7, events, &setup)
 }
 
-// The writer is flushed after the last line, also where there is none, and a failed flush is not
-// Ok.
+// The writer is flushed after the last line, even if there is none, and a failed flush is not Ok.
 #[test]
 fn a_drawn_schedule_is_flushed(rt: HostRuntime) {
     for (events, len) in [(3, 32), (1, 15), (0, 0usize)] {

@@ -1,10 +1,10 @@
-//! Pools: where pages go, what is refused, and what is unchanged where a device fails. A test is a
+//! Pools: where pages go, what is refused, and what is unchanged if a device fails. A test is a
 //! list of test cases (`Row`), each a call and its expected result. Each call is in a function of
 //! its own, whose contract keeps the history by which the pool is ranked: so the proof of a test
 //! does not grow with its cases.
 //!
-//! What must not fail ends the process where it does: a `?` would be one more exit path, on which
-//! the drops of all owned values are proved.
+//! What must not fail ends the process if it does: a `?` would be one more exit path, on which the
+//! drops of all owned values are proved.
 ghost use Rattle.std.specs.Prelude.{◌≤◌, length};
 ghost use Rattle.warm_pool.specs.Unchanged.{KeepsRanks};
 ghost use Rattle.warm_pool.specs.State.{IsRankedByAll, RankedBy};

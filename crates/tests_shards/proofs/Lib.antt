@@ -1,1 +1,1 @@
-mod Pinned
+mod TwoThreadPinLemmas

@@ -19,7 +19,7 @@ type Shared = SharedShards<MemDevice>;
 
 type Thread = Attached<MemDevice>;
 
-// Pages 1 and 65 are of shard 1, where there are two. Page 1 alone is referenced twice.
+// Pages 1 and 65 are of shard 1, if there are two shards. Page 1 alone is referenced twice.
 const GIVEN: &[SeenAt] = &[(0, 1, 2, 1), (0, 65, 3, 1), (0, 1, 4, 1), (0, 2, 5, 1)];
 
 // The hottest pages of a shard.

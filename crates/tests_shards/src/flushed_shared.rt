@@ -65,7 +65,7 @@ fn a_buffer_waits_until_it_is_flushed(rt: HostRuntime) {
     assert!(rt; buffer.touch(last).is_ok() && buffer.len() == 1);
 }
 
-// A thread puts its references into a buffer of three, and flushes it where it is full, and at the
+// A thread puts its references into a buffer of three, and flushes it when it is full, and at the
 // end. Whether all was taken.
 fn worked<R: Wait + Abort>(
     rt: &R,

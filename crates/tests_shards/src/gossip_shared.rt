@@ -26,7 +26,7 @@ const FIRST: &[SeenAt] = &[
 
 const SECOND: &[SeenAt] = &[(0, 1, 40, 2), (0, 7, 41, 2), (3, 5, 42, 2), (0, 63, 9, 2)];
 
-// A replica takes messages in. Returns its answers to all of them, in order, or `None` where it
+// A replica takes messages in. Returns its answers to all of them, in order, or `None` if it
 // refuses one.
 fn answers<R: Wait + Abort>(
     rt: &R,
@@ -293,7 +293,7 @@ fn all_buckets_are_answered_as_by_a_node(rt: HostRuntime) {
     assert!(rt; same_messages(&rt, alloc, &four, &wanted));
 }
 
-// Digests of a replica with no entries, where all that has entries differs.
+// Digests of a replica with no entries: those of each bucket that has entries elsewhere differ.
 fn empty_offer(rt: &impl Abort, alloc: Global) -> Message {
     let mut empty = node(rt, alloc, 2);
     empty.offer().ok().expect(rt, "memory for digests")

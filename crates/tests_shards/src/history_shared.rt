@@ -21,7 +21,7 @@ type Shared = SharedShards<MemDevice>;
 
 type Thread = Attached<MemDevice>;
 
-// What each of four threads absorbs. Where there are four shards, page 65 is of shard 1, page 63 of
+// What each of four threads absorbs. If there are four shards, page 65 is of shard 1, page 63 of
 // shard 3, page 3 of device 1 of shard 0, and each other page of the shard of its number. No shard
 // gets its references of one thread alone.
 const ONE: &[SeenAt] = &[(0, 1, 10, 1), (0, 2, 20, 1), (0, 3, 30, 1), (0, 65, 40, 1)];

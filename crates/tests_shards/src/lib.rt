@@ -1,7 +1,7 @@
 //! Tests of a replica in shards, over only public calls: beside a node with the same references, an
 //! exchange between shards of different numbers, bad input, a page's way through its shard, and
-//! calls that go through all shards, also where one refuses; and the same of shards that threads
-//! share (warm_shards, warm_concurrent). Allocations that fail are in test_node_memory.
+//! calls that go through all shards, even if one refuses; and the same of shards that threads share
+//! (warm_shards, warm_concurrent). Allocations that fail are in test_node_memory.
 #![tactic(auto)]
 
 #[cfg(test)]

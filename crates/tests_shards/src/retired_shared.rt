@@ -17,7 +17,7 @@ pub(crate) const fn of_pool(fault: PoolFault) -> SharedFault {
     SharedFault::Node(NodeFault::Pool(fault))
 }
 
-// Replaces a device of a shard. Where that is refused, the fault and the new device come back.
+// Replaces a device of a shard. If that is refused, the fault and the new device come back.
 fn retired<D: PageDevice + Send, R: Wait + Abort>(
     rt: &R,
     shared: &SharedShards<D>,

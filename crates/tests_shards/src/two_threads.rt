@@ -61,7 +61,7 @@ pub(crate) fn two_absorb<D: PageDevice + Send, R: Wait + Abort>(
     nodes
 }
 
-// What each thread absorbs. Where there are four shards, page 65 is of shard 1, page 63 of shard 3,
+// What each thread absorbs. If there are four shards, page 65 is of shard 1, page 63 of shard 3,
 // and each other page of the shard of its number. Both know pages 1 and 2.
 const ONE: &[SeenAt] = &[(0, 1, 10, 1), (0, 2, 20, 1), (0, 3, 30, 1), (0, 65, 40, 1)];
 

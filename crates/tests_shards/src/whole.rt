@@ -1,5 +1,5 @@
 //! Calls that go through all shards: writing back, forgetting pages, restarting, and what they
-//! leave where one shard refuses.
+//! leave if one shard refuses.
 use crate::kit::{batch, over};
 use std::alloc::Global;
 use std::process::Abort;

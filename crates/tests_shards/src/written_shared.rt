@@ -1,5 +1,5 @@
 //! A page of shared shards that is written back, all pages of a shard that are, and a device of a
-//! shard that is flushed, each in one turn of its shard, also where the device fails.
+//! shard that is flushed, each in one turn of its shard, even if the device fails.
 ghost use Rattle.warm_concurrent.specs.Attached.{AreOf};
 
 use crate::kit::{closed, dirty, over, shared_from};

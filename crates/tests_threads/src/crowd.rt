@@ -78,7 +78,7 @@ fn rounds_of(entries: &[Entry]) -> Option<Rounds> {
     Some(rounds)
 }
 
-// The rounds that the reply to a job's call shows, where the job touched and flushed before.
+// The rounds that the reply to a job's call shows, if the job touched and flushed before.
 fn shown_after(step: &[StepReply]) -> Option<Rounds> {
     let [
         StepReply::Touched,

@@ -130,9 +130,9 @@ fn make(rt: &impl Abort, alloc: Global, call: Call) -> Step {
     Step::Call(BoxedCall::new(alloc, call).expect(rt, "memory for a call"))
 }
 
-// A job that requests the victim; where it has five steps, after three touches of its page and a
-// flush. Its buffer holds two. Then come as many flushes as the number of its page, so that each of
-// four jobs has another number of steps.
+// A job that requests the victim. If it has five steps, three touches of its page and a flush come
+// before. Its buffer holds two. Then come as many flushes as the number of its page, so that each
+// of four jobs has another number of steps.
 fn job_of(rt: &impl Abort, alloc: Global, no: u64, five: bool) -> Job {
     let victim = make(rt, alloc, Call::Victim);
     let mut steps = if five {
@@ -238,7 +238,7 @@ fn one_touch(rt: &impl Abort, alloc: Global, cap: usize) -> Vec<Job> {
     vec![in alloc; Job { cap, steps }].expect(rt, "memory for a job")
 }
 
-// How such a job ends, where nothing was flushed.
+// How such a job ends, if nothing was flushed.
 fn ended<R: Threads + Wait + Abort + Sync>(
     rt: &R,
     alloc: Global,

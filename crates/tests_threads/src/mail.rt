@@ -117,7 +117,7 @@ fn heard_alone<R: Wait + Abort>(
     heard
 }
 
-// The mail is entries, a byte that is not a message, and a Stop. Where the loop waits for a second
+// The mail is entries, a byte that is not a message, and a Stop. If the loop waits for a second
 // Stop, the channel is closed.
 #[test]
 fn a_loop_ends_at_its_bounds(rt: HostRuntime) {
@@ -448,8 +448,8 @@ const FIRST: Slot = Slot {
     generation: 1,
 };
 
-// A node whose only frame has page 3, of which three bytes are written. It stays pinned where
-// `stays` is true.
+// A node whose only frame has page 3, of which three bytes are written. It stays pinned if `stays`
+// is true.
 fn filled(rt: &impl Abort, alloc: Global, stays: bool) -> Node<MemDevice> {
     let device = memory(alloc, 8).expect(rt, "memory for a device");
     let mut node = node_over(rt, alloc, 1, 1, device);
@@ -476,7 +476,7 @@ fn left_by_a_loop<R: Wait + Abort>(rt: &R, alloc: Global, stays: bool) -> Node<M
     turn.close(pass).expect(rt, "each ticket was passed on")
 }
 
-// Whether the frame still has that page, which was never evicted, with its bytes, and pinned where
+// Whether the frame still has that page, which was never evicted, with its bytes, and pinned if
 // `stays` is true.
 fn is_as_filled(mut node: Node<MemDevice>, stays: bool) -> bool {
     let had_fix = node.unpin(FIRST).is_ok();

@@ -84,8 +84,8 @@ fn asked<R: Wait + Abort>(rt: &R, alloc: Global, no: u8, number: u16) -> Ends {
     channel_of(rt, alloc, &[&entry_at(0, no, 10), text.as_slice()])
 }
 
-// Sends a Stop to both where the flag is not set in time, so that a loop also ends whose mail is
-// never sent.
+// Sends a Stop to both if the flag is not set in time, so that a loop also ends whose mail is never
+// sent.
 fn stop_late<R: Wait + Clock>(
     rt: &R,
     flag: &AtomicU64,

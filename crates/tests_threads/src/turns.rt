@@ -181,7 +181,7 @@ fn add_one<M: Machine<Call = Add, Reply = Added>, R: Wait>(
     let _ = turn.call(rt, pass, Add(1));
 }
 
-// Adds one three times, and waits after the first where there is a gate.
+// Adds one three times, and waits after the first if there is a gate.
 fn add_thrice<M: Machine<Call = Add, Reply = Added>, R: Wait + Clock>(
     rt: &R,
     turn: &Turn<M>,

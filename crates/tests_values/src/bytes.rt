@@ -46,7 +46,7 @@ pub(crate) fn narrow_changed(place: usize, value: u8) -> [u8; 42] {
     bytes
 }
 
-// Ends the test where its test case of this number does not hold: the only place where a message is
+// Ends the test if its test case of this number does not hold: the only place where a message is
 // formatted, which is expensive to prove.
 pub(crate) fn row_holds(rt: &impl Abort, at: usize, is_so: bool) {
     assert!(rt; is_so, "row {at}");

@@ -88,8 +88,8 @@ fn a_file_that_cannot_be_opened(rt: HostRuntime) {
     assert!(rt; missing.err() == Some(OpenFault::Open));
 }
 
-// Pages that don't fit into 2^63 - 1 bytes are refused before any system call, also where their
-// number of bytes has more than 64 bits.
+// Pages that don't fit into 2^63 - 1 bytes are refused before any system call, even if their number
+// of bytes has more than 64 bits.
 #[test]
 fn a_file_that_would_be_too_large(rt: HostRuntime) {
     let path = "never-made.pages";

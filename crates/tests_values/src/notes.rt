@@ -41,7 +41,8 @@ fn a_drop_is_noted_before_it_settles(rt: HostRuntime) {
     assert!(rt; note.counts() == (1, 1));
 }
 
-// The record of a device whose call of this number fails, where a page was written and not flushed.
+// What a device's drop notes after a page was written and not flushed; its call of this number
+// fails.
 fn found_as_call_fails(rt: &impl Abort, alloc: Global, number: u64) -> Found {
     let (device, note) = noting(rt, alloc, 1, 1);
     let mut device = Flaky::new(device, number);

@@ -187,8 +187,8 @@ fn place_of_fault(alloc: Global, bytes: &[u8]) -> Option<(usize, FrameFault)> {
     None
 }
 
-// Whether the bytes are refused with this fault by `decode`, at this place where they are fed byte
-// by byte, and where they are fed as one piece.
+// Whether the bytes have this fault: by `decode`, at this place if they are fed byte by byte, and
+// if they are fed as one piece.
 fn faults_at(alloc: Global, bytes: &[u8], at: usize, want: FrameFault) -> bool {
     fault(alloc, bytes) == Some(want)
         && place_of_fault(alloc, bytes) == Some((at, want))

@@ -43,6 +43,6 @@ both_called {A} {B} goes before after from from' status old new other ending was
     subst (λ (o : Option A). OnTwoHandles goes o from status after from') (sym was) (subst (λ (o : Option A). OnTwoHandles goes (Some old) from status o from') (sym is)
     (subst (λ (o : Option B). OnTwoHandles goes (Some old) o status (Some new) from') (sym held) (ending, went, said, still)))
 
--- a bool of C that says whether one thing holds says it of another that holds where that does
+-- a bool of C that says whether P holds also says whether Q does, if each follows from the other
 pub bool_same : {P Q : Type 0} (n : ℕ) → IsBool n P → P ↔ Q → IsBool n Q
 bool_same n is same = (is.0, (λ e. same.0 (is.1.0 e), λ q. is.1.1 (same.1 q)))

@@ -134,8 +134,8 @@ SaysResident page number old new =
 
 -- Frames
 
--- the frame of a message stands at the start of the buffer, and its length is written; the length
--- is written too where it does not fit
+-- the frame of a message stands at the start of the buffer, and its length is written, even if the
+-- frame does not fit
 abbrev pub PutsFrame : Message → List ℕ → ℕ → List ℕ → ℕ → Ending → Type 0
 PutsFrame message before len after len' (Ok given) = (after ≡ with_start (encoding message) before)
     × (len' ≡ length (encoding message))
@@ -157,10 +157,10 @@ abbrev pub Saves : {A : Type 0} → A → Ending → A → Type 0
 Saves old (Ok given) new = new ≡ old
 Saves old (Err why) new = SaveRefused why × (new ≡ old)
 
--- The node has joined a history, of which the bytes are a dump, where they are known, and its
--- devices and frames have their bytes and dirty flags as before. Or they show why they are none, or
--- were not read, and nothing has changed; or an allocation for the join failed, and nothing has
--- changed that a caller sees, nor those.
+-- The node has joined a history, and its devices and frames have their bytes and dirty flags as
+-- before. If the bytes read are known, they are a dump of the history. Or they are no dump, or were
+-- not read: the fault says why, and nothing has changed. Or an allocation for the join failed: then
+-- nothing has changed that a caller sees, and neither have the bytes and dirty flags.
 abbrev pub Loads : Option (List ℕ) → OpenNode → Ending → OpenNode → Type 0
 Loads bytes old (Ok given) new =
     ((h : HistoryView) × IsHistory h × IfSome bytes (λ text. IsDump text h)

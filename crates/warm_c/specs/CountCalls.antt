@@ -15,14 +15,15 @@ use Rattle.warm_c_base.specs.declared.status.Refusal.TheVariants.{Node}
 use Rattle.warm_c.specs.Calls.{Ending}
 use Rattle.warm_c_base.specs.Counters.{IsOptionalFailure}
 
--- So many pages are resident and dirty, and the handle is as it was. Of hits, misses, evictions and
--- pages written back no clause says anything: what a pool counts is no part of its state.
+-- This many pages are resident and dirty, and the handle is as it was. Of hits, misses, evictions
+-- and pages written back no clause says anything: what a pool counts is no part of its state.
 pub record CountsPool (counters : WarmCounters) (old new : OpenNode) : Type 0 where
   pub resident : counters.resident ≡ length (resident_pages (view_of old.node.pool))
   pub dirty : counters.dirty ≡ dirty_count old.node.pool.frames
   pub same : new ≡ old
 
--- So many calls of the device failed; or there is no device of this number, and nothing is written.
+-- This many calls of the device failed; or there is no device of this number, and nothing is
+-- written.
 abbrev pub CountsDevice : ℕ → WarmDeviceCounters → WarmDeviceCounters → OpenNode → Ending
     → OpenNode → Type 0
 CountsDevice dev before after old (Ok given) new = (dev < length old.node.pool.devices)

@@ -55,7 +55,7 @@ PinsZeroed page before after old (Err why) new = ⊥
 
 -- Writing back
 
--- the page is written back where it is dirty, and whether it was is given; a refused call gives
+-- the page is written back if it is dirty, and whether it was is given; a refused call gives
 -- nothing
 abbrev pub NodeWritesBackPage : WarmPage → ℕ → ℕ → OpenNode → Ending → OpenNode → Type 0
 NodeWritesBackPage page before written old (Ok given) new = (was_dirty : Bool)
@@ -72,7 +72,7 @@ abbrev pub SaysDirty : WarmPage → ℕ → OpenNode → OpenNode → Type 0
 SaysDirty page number old new =
     IsBool number (IsDirty old.node.pool (page_of_c page)) × (new ≡ old)
 
--- the first dirty frame from a number on is given, and its page, where there is one
+-- the first dirty frame from a number on is given, and its page, if there is one
 abbrev pub NamesDirty : ℕ → ℕ → WarmPage → ℕ → ℕ → WarmPage → OpenNode → OpenNode → Type 0
 NamesDirty from frame page found frame' page' old new = (next : Option DirtyFrame)
     × IsNextDirty old.node.pool from next × IsOptionalDirty next frame page found frame' page'

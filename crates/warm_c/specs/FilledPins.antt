@@ -31,9 +31,9 @@ abbrev pub LooksPinned : WarmPage → Reply → OpenNode → OpenNode → Type 0
 LooksPinned page reply old new = Goes old.node (Pin (page_of_c page)) reply new.node
     × SameDevices old new
 
--- The page is pinned as by a pin, but with these bytes where it was in no frame. They are as many
--- as a page has; else nothing has changed. It is refused as a pin is, but for a read that failed:
--- no frame has changed, and only the write of the victim called a device.
+-- The page is pinned as by a pin, but with these bytes if it was in no frame. They are as many as a
+-- page has; else nothing has changed. It is refused as a pin is, but for a read that failed: no
+-- frame has changed, and only the write of the victim called a device.
 abbrev pub PinsFilled : WarmPage → List ℕ → PinnedSlot → PinnedSlot → OpenNode → Ending → OpenNode
     → Type 0
 PinsFilled page bytes before after old (Ok given) new =
@@ -48,7 +48,7 @@ PinsFilled page bytes before after old (Err (Node (Pool why))) new = (why ≢ Re
     × KeepsFrames old.node.pool new.node.pool × CallsNone old new × (after ≡ before)
 PinsFilled page bytes before after old (Err why) new = ⊥
 
--- the page that a warm-up step would load is given, where there is one; the node is as it was
+-- the page that a warm-up step would load is given, if there is one; the node is as it was
 abbrev pub NamesNext : ℕ → WarmPage → ℕ → WarmPage → OpenNode → Ending → OpenNode → Type 0
 NamesNext found page found' page' old (Ok given) new = (next : Option PageId)
     × IsNextWarm (node_view old.node) next × IsOptionalPage next page found' page' × (new ≡ old)

@@ -100,9 +100,9 @@ JoinsPart shards shard other old ending new =
     OfPart shards shard ending (new ≡ old)
     (JoinsThose shards shard other.peer.history old ending new)
 
--- A call on two handles. Where one of them is closed, it says so, and both are as they were. Else
--- the first stays open, and what it holds goes as `goes` says beside what the second holds, which
--- is as it was.
+-- A call on two handles. If one of them is closed, the status says so, and both are as they were.
+-- Otherwise the first stays open, `goes` says how what it holds changes, and the second is as it
+-- was.
 abbrev pub OnTwoHandles : {A B : Type 0} → (B → A → Ending → A → Type 0) → Option A → Option B → ℤ
     → Option A → Option B → Type 0
 OnTwoHandles goes None from status into' from' =

@@ -29,8 +29,8 @@ abbrev pub IsNoShardNumber : ℕ → ℕ → Refusal → Type 0
 IsNoShardNumber shards shard why = ((why ≡ BadShards) × (IsShardCount shards → ⊥))
     ⊎ ((why ≡ NoShard) × IsShardCount shards × (shards ≤ shard))
 
--- A call for one shard. Where there cannot be `shards` shards, or `shard` is none of them, it is
--- refused, and all is as `same` says; else it goes as `goes` says.
+-- A call for one shard. If there cannot be `shards` shards, or `shard` is none of them, it is
+-- refused, and `same` holds. Otherwise `goes` holds.
 abbrev pub OfPart : ℕ → ℕ → Ending → Type 0 → Type 0 → Type 0
 OfPart shards shard ending same goes =
     ((why : Refusal) × (ending ≡ Err why) × IsNoShardNumber shards shard why × same)
@@ -42,7 +42,7 @@ OfPart shards shard ending same goes =
 abbrev pub shards_of : ℕ → List PageId → List ℕ
 shards_of shards pages = map (shard_of shards) pages
 
--- bit i of the number is 1 exactly where i is one of these
+-- bit i of the number is 1 exactly if i is one of these
 abbrev pub HasBits : List ℕ → ℕ → Type 0
 HasBits numbers bits = (i : ℕ) → (bit_at bits i ≡ 1) ↔ Contains numbers i
 

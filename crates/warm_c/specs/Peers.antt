@@ -54,9 +54,9 @@ ListsHottest before count after number old (Err (Node Memory)) new =
     (after ≡ before) × (number ≡ count) × (new ≡ old)
 ListsHottest before count after number old (Err why) new = ⊥
 
--- The peer has joined a history, of which the bytes are a dump, where they are known. Or they show
--- why they are none, or were not read; or an allocation for the join failed. Then nothing has
--- changed.
+-- The peer has joined a history. If the bytes read are known, they are a dump of it. Or they are no
+-- dump, or were not read, and the fault says why; or an allocation for the join failed. Then
+-- nothing has changed.
 abbrev pub LoadsPeer : Option (List ℕ) → OpenPeer → Ending → OpenPeer → Type 0
 LoadsPeer bytes old (Ok given) new = (h : HistoryView) × IsHistory h
     × IfSome bytes (λ text. IsDump text h) × HasJoined h old new

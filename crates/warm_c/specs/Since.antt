@@ -29,7 +29,7 @@ abbrev pub send_buffers : List ℕ → ℕ → ℕ → ℕ → WarmPage → Send
 send_buffers frame len entries more last =
     record { frame = frame; len = len; entries = entries; more = more; last = last }
 
--- the page of an entry; where there is none, the page as it was
+-- the page of an entry; if there is none, the page as it was
 abbrev pub page_or : WarmPage → Option Entry → WarmPage
 page_or before None = before
 page_or before (Some entry) = c_page entry.page
@@ -43,8 +43,8 @@ last_in message before =
 abbrev pub message_since : ℕ → ℕ → Option PageId → OpenNode → Message
 message_since bucket since after h = sent_since h.node.id h.node.history bucket since after
 
--- The frame of a message is put into the buffer; but nothing is, where the message has no entry and
--- is not to be sent without one. Memory may fail in any case.
+-- The frame of a message is put into the buffer. Nothing is put there if the message has no entry,
+-- and is not to be sent without one. Memory may fail in any case.
 abbrev pub PutsSent : Bool → Message → List ℕ → ℕ → List ℕ → ℕ → Ending → Type 0
 PutsSent true message before len after len' ending = PutsFrame message before len after len' ending
 PutsSent false message before len after len' ending =
@@ -64,7 +64,7 @@ PutsPlace bucket since after old new h (Err why) = (new.entries ≡ old.entries)
     × (new.more ≡ old.more) × (new.last ≡ old.last)
 
 -- the number is no bucket's, and nothing has changed; or the message of that bucket is put into the
--- buffer, also if it has no entry where that is asked for
+-- buffer, also without an entry if that is asked for
 abbrev pub SendsSince : ℕ → ℕ → Option PageId → Bool → SendBuffers → SendBuffers → OpenNode → Ending
     → OpenNode → Type 0
 SendsSince bucket since after even_empty old new h ending h' =

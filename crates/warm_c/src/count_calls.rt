@@ -42,7 +42,7 @@ impl OpenNode {
     }
 
     /// Writes whether a call of a device has failed, as a bool of C, and which did last; `failure`
-    /// is unchanged where none has.
+    /// is unchanged if none has.
     pub fn last_failure(&self, found: &mut u8, failure: &mut WarmFailure)
         ensures { SaysFailure failure.old found.new failure.new self.now self.now }
     {

@@ -12,8 +12,8 @@ use warm_gossip::NodeFault;
 use warm_pool::PoolFault;
 use warm_stamps::Items;
 
-// Creates the device over a descriptor. `None` exactly where its pages do not fit into what a
-// file's offsets can name.
+// Creates the device over a descriptor. `None` exactly if its pages do not fit into what a file's
+// offsets can name.
 fn device_of(device: &WarmDevice, page_size: usize) -> Option<FdDevice>
     ensures made { IfSome result (λ made.
         fd_state made ≡ fd_opened device.now.fd device.now.pages page_size) }

@@ -19,8 +19,8 @@ fn put_bytes(bytes: &[u8], into: &mut [u8])
     into[..bytes.len()].copy_from_slice(bytes);
 }
 
-// Puts the frame of a message at the start of a buffer, and writes its length, also where it does
-// not fit.
+// Puts the frame of a message at the start of a buffer, and writes its length, even if it does not
+// fit.
 pub(crate) fn put_frame(
     alloc: Global,
     message: &Message,
@@ -68,7 +68,7 @@ fn put_sent(
     put_frame(alloc, message, frame, len)
 }
 
-// Writes the page of the last entry of a message, where it has one.
+// Writes the page of the last entry of a message, if it has one.
 fn put_last(message: &Message, last: &mut WarmPage)
     ensures { last.new ≡ last_in message.now last.old }
 {

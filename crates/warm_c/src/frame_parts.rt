@@ -29,9 +29,9 @@ pub struct NodeTable {
 pub struct NodeFrame {
     /// The sender's horizon.
     pub horizon: u64,
-    /// Of entries: bit i where one is of a page of shard i. Else 0.
+    /// Of entries: bit i if one is of a page of shard i. Else 0.
     pub shards: u64,
-    /// Of a request: bit i where bucket i is requested. Else 0.
+    /// Of a request: bit i if bucket i is requested. Else 0.
     pub buckets: u64,
     /// How many entries there are; 0 of digests and of a request.
     pub entries: usize,
@@ -128,7 +128,7 @@ fn differing_in(table: &NodeTable, message: &Message) -> u64
 }
 
 /// Decodes a frame, and writes which buckets have other digests in it than in the table; none,
-/// where it is no frame of digests.
+/// if it is no frame of digests.
 ///
 /// # Errors
 /// `Frame`: the bytes are no frame; `buckets` is unchanged.

@@ -84,7 +84,7 @@ use warm_gossip::NodeFault;
 /// devices at most.
 ///
 /// # Errors
-/// In this order, and 1 at any point where an allocation failed. After 65 the handle is unchanged;
+/// In this order, and 1 if an allocation failed at any point. After 65 the handle is unchanged;
 /// after any other it is closed.
 /// - 65: the handle is open.
 /// - 67: the replica's number is not valid.
@@ -147,7 +147,7 @@ pub extern "C" fn node_absorb(
     on_open(alloc, handle, |node| node.absorb(alloc, references))
 }
 
-/// Pins a page: reads it into a frame where it is in none, and writes its slot.
+/// Pins a page: reads it into a frame if it is in none, and writes its slot.
 ///
 /// # Errors
 /// 4 to 9, in the order of [`warm_pool::Pool::pin`]. The slot is unchanged, and of the node only
@@ -360,7 +360,7 @@ pub extern "C" fn node_dirty(
 }
 
 /// Writes whether a frame with the number `from` or a higher one is dirty, 1 or 0, the number of
-/// the first such frame, and its page. Frames are numbered from 0. Where there is none, as for a
+/// the first such frame, and its page. Frames are numbered from 0. If there is none, as for a
 /// `from` beyond the last frame, `frame` and `page` are unchanged.
 #[unsafe(no_mangle)]
 pub extern "C" fn node_next_dirty(
@@ -383,8 +383,8 @@ pub extern "C" fn node_next_dirty(
     put_back(handle, node, Ok(()))
 }
 
-/// Writes whether there is a page that would be evicted next, 1 or 0, and which. Where there is
-/// none, `page` is unchanged.
+/// Writes whether there is a page that would be evicted next, 1 or 0, and which. If there is none,
+/// `page` is unchanged.
 #[unsafe(no_mangle)]
 pub extern "C" fn node_victim(
     alloc: Global,
@@ -428,7 +428,7 @@ pub extern "C" fn node_list(
 }
 
 /// Loads the hottest page that is in no frame, of as many of the hottest pages as the pool has
-/// frames, and writes whether there was one, 1 or 0, and which; `page` is unchanged where there was
+/// frames, and writes whether there was one, 1 or 0, and which; `page` is unchanged if there was
 /// none.
 ///
 /// # Errors
@@ -459,7 +459,7 @@ pub extern "C" fn node_step(
 }
 
 /// Writes whether there is a page that [`node_step`] would load, 1 or 0, and which; `page` is
-/// unchanged where there is none. Nothing is loaded: C reads the page, and pins it by
+/// unchanged if there is none. Nothing is loaded: C reads the page, and pins it by
 /// [`node_pin_filled`].
 ///
 /// # Errors
@@ -487,11 +487,11 @@ pub extern "C" fn node_next(
     }
 }
 
-/// Writes the frame with the first 1000 entries of a bucket, of those whose latest stamp is not
-/// before the time `since`, and, where `has_after`, whose page is greater than `after`; its length;
-/// how many entries it has; whether more of them follow, 1 or 0; and the page of the last one,
-/// after which to go on. Where there is none, `last` is unchanged; so are the buffer and the
-/// length, unless `even_empty`.
+/// Writes a frame with entries of a bucket: the first 1000 of those whose latest stamp is not
+/// before the time `since` and, if `has_after`, whose page is greater than `after`. Also writes its
+/// length, how many entries it has, whether more of them follow, 1 or 0, and the page of the last
+/// one, after which to go on. If there is no such entry, `last` is unchanged; so are the buffer and
+/// the length, unless `even_empty`.
 ///
 /// # Errors
 /// The buffer, `entries`, `more` and `last` are unchanged.
@@ -551,7 +551,7 @@ pub extern "C" fn node_raise(
     put_back(handle, node, Ok(()))
 }
 
-/// Writes back one page, where it is in a frame and dirty, and writes whether it was, 1 or 0. No
+/// Writes back one page, if it is in a frame and dirty, and writes whether it was, 1 or 0. No
 /// device is flushed.
 ///
 /// # Errors
@@ -575,7 +575,7 @@ pub extern "C" fn node_write_back_page(
     put_back(handle, node, done)
 }
 
-/// Writes back the dirty pages of one device, and flushes it where it is unflushed.
+/// Writes back the dirty pages of one device, and flushes it if it is unflushed.
 ///
 /// # Errors
 /// In this order. Of what a caller sees, only counts of failures have changed.
@@ -605,7 +605,7 @@ pub extern "C" fn node_forget_pages(alloc: Global, handle: &mut Handle, dev: u16
 /// it is flushed, and its pages are evicted. The history is kept.
 ///
 /// # Errors
-/// In this order, and 1 where an allocation failed before 11. The devices are unchanged.
+/// In this order, and 1 if an allocation failed before 11. The devices are unchanged.
 /// - 4: there is no device of this number, or the pages of the new one exceed 2^63 - 1 bytes.
 /// - 69: two devices would be of one file.
 /// - 11: a page of the old device is pinned.
@@ -664,8 +664,8 @@ pub extern "C" fn node_device_counts(
     put_back(handle, node, done)
 }
 
-/// Writes whether a call of a device has failed, 1 or 0, and which did last; where none has,
-/// `failure` is unchanged.
+/// Writes whether a call of a device has failed, 1 or 0, and which did last; if none has, `failure`
+/// is unchanged.
 #[unsafe(no_mangle)]
 pub extern "C" fn node_last_failure(
     alloc: Global,

@@ -47,7 +47,7 @@ pub extern "C" fn node_pin_bytes(
 /// which buckets it requests. `limit` bounds all its times, and `horizon` its horizon alone.
 ///
 /// # Errors
-/// In this order, and 1 at any point where an allocation failed; `what` is unchanged.
+/// In this order, and 1 if an allocation failed at any point; `what` is unchanged.
 /// - 72: there cannot be this many shards.
 /// - 34 to 42: the bytes are no frame, by the first fault from left to right.
 /// - 70: the horizon is later than one of both limits.
@@ -70,7 +70,7 @@ pub extern "C" fn node_read_frame(
 /// Nothing waits to be answered.
 ///
 /// # Errors
-/// In this order, and 1 at any point where an allocation failed. Nothing has changed that a caller
+/// In this order, and 1 if an allocation failed at any point. Nothing has changed that a caller
 /// sees.
 /// - 72: there cannot be this many shards.
 /// - 76: there is no shard of this number.
@@ -149,7 +149,7 @@ pub extern "C" fn node_offer_frame(
 /// bucket i; 0 of a frame of another kind.
 ///
 /// # Errors
-/// 1 where an allocation failed. `buckets` is unchanged.
+/// 1 if an allocation failed. `buckets` is unchanged.
 /// - 34 to 42: the bytes are no frame, by the first fault from left to right.
 #[unsafe(no_mangle)]
 pub extern "C" fn node_differing(

@@ -46,7 +46,7 @@ fn push_bucket(
 
 /// The entries of pages of the shard, bucket by bucket. It reads those entries alone.
 ///
-/// `AllocError` occurs only where an allocation fails.
+/// `AllocError` occurs only if an allocation fails.
 pub fn entries_of_shard(
     alloc: Global,
     history: &History,

@@ -1,4 +1,4 @@
--- Lists of which a set is made: it has as many items as the list exactly where no two are equal.
+-- Lists of which a set is made: it has as many items as the list exactly if no two are equal.
 use Rattle.std.proofs.Common.{◌≡◌, ℕ, ℤ, List, length, sym, subst, ap, ◌∙◌, true, eqb, Decides, BTreeSet, btree_set_len, Ordering, Equal, is_eq, nat_cmp, int_cmp}
 use Rattle.std.proofs.lemmas.Bool.{eqb-true, eq-eqb}
 use Rattle.std.proofs.lemmas.Cmp.{eq_by_cmp_equiv, int_cmp_total, int_ranked, nat_cmp_total, ranked, tied_itself}
@@ -9,7 +9,7 @@ use Rattle.std.specs.Cmp.{Equal-is, IsTotalOrder}
 use Rattle.std.specs.Ordering.{eq_by_cmp}
 use Rattle.warm_c_base.specs.DeviceLists.{AllDiffer}
 
--- a set has as many items as the list that it is made of exactly where no two are equal
+-- a set has as many items as the list that it is made of exactly if no two are equal
 module _ {K : Type 0} {R : K → K → Ordering} (order : IsTotalOrder R)
     (same : (x y : K) → Decides (eq_by_cmp R x y) (x ≡ y)) where
   pub set_decides : (xs : List K) (made : BTreeSet K) → IsFromIterResult R xs made

@@ -31,7 +31,7 @@ c_failure f error = record {
   error = error;
 }
 
--- whether a call has failed, as a bool of C, and which; failure is as it was where none has
+-- whether a call has failed, as a bool of C, and which; failure is as it was if none has
 abbrev pub IsOptionalFailure : Option FailedCall → ℤ → WarmFailure → ℕ → WarmFailure → Type 0
 IsOptionalFailure None error before found failure = (found ≡ 0) × (failure ≡ before)
 IsOptionalFailure (Some f) error before found failure = (found ≡ 1)

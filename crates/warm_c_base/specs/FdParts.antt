@@ -32,8 +32,8 @@ fd_state f = fd_device f.file.descriptor.fd f.pages f.page_size f.waiting f.fail
 abbrev pub fd_opened : ℤ → ℕ → ℕ → DeviceState
 fd_opened fd pages page_size = fd_device fd pages page_size false 0 no_calls
 
--- A flush fails where one has failed before, with the errno of that one, and one that fails is
--- remembered. The system may report a lost write once, and then no more.
+-- A flush fails if one has failed before, with the errno of that one. One that fails is remembered.
+-- The system may report a lost write once, and then no more.
 pub record Remembers (old : DeviceFile) (flushed : Bool) (new : DeviceFile) : Type 0 where
   pub fails : IsTrue old.flush_failed → flushed ≡ false
   pub keeps : flushed ≡ false → IsTrue new.flush_failed

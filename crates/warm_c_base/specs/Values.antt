@@ -18,18 +18,18 @@ page_of_c p = record { dev = p.dev; no = p.no }
 abbrev pub c_page : PageId → WarmPage
 c_page p = record { no = p.no; dev = p.dev }
 
--- the page, where there is one
+-- the page, if there is one
 abbrev pub page_if : Bool → WarmPage → Option PageId
 page_if true p = Some (page_of_c p)
 page_if false p = None
 
--- whether there is a page, as a bool of C, and which; page is as it was where there is none
+-- whether there is a page, as a bool of C, and which; page is as it was if there is none
 abbrev pub IsOptionalPage : Option PageId → WarmPage → ℕ → WarmPage → Type 0
 IsOptionalPage None before found page = (found ≡ 0) × (page ≡ before)
 IsOptionalPage (Some p) before found page = (found ≡ 1) × (page ≡ c_page p)
 
--- whether there is a dirty frame, which, and its page; frame and page are as they were where there
--- is none
+-- whether there is a dirty frame, which, and its page; frame and page are as they were if there is
+-- none
 abbrev pub IsOptionalDirty : Option DirtyFrame → ℕ → WarmPage → ℕ → ℕ → WarmPage → Type 0
 IsOptionalDirty None frame page found frame' page' =
     IsOptionalPage None page found page' × (frame' ≡ frame)

@@ -67,7 +67,7 @@ impl WarmCounters {
     }
 }
 
-// The number of the page, 0 where there is none.
+// The number of the page, 0 if there is none.
 fn page_number(page: Option<u64>) -> u64
     ensures { result ≡ page_number page }
 {
@@ -91,8 +91,7 @@ impl WarmFailure {
     }
 }
 
-/// Writes whether a call has failed, as a bool of C, and which; `failure` is unchanged where none
-/// has.
+/// Writes whether a call has failed, as a bool of C, and which; `failure` is unchanged if none has.
 pub fn put_failure(given: Option<FailedCall>, error: i32, found: &mut u8, failure: &mut WarmFailure)
     ensures { IsOptionalFailure given error failure.old found.new failure.new }
 {

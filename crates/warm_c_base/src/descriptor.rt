@@ -31,7 +31,7 @@ pub struct Descriptor {
     fd: i32,
 }
 
-// Makes a request. False where that fails.
+// Makes a request. False if that fails.
 fn ask(fd: i32, kind: u8, at: u64) -> bool {
     let [a0, a1, a2, a3, a4, a5, a6, a7] = at.to_be_bytes();
     let request = [kind, a0, a1, a2, a3, a4, a5, a6, a7];
@@ -47,7 +47,7 @@ impl Descriptor {
     }
 
     /// Fills `into` with the bytes of the file from the offset `at` on, with zeros past its end.
-    /// False where that fails: `into` may then hold any bytes.
+    /// False if that fails: `into` may then hold any bytes.
     pub fn read(self, at: u64, into: &mut [u8]) -> bool {
         // `io` makes no call for no bytes, and the request would wait for one.
         if into.is_empty() {
@@ -56,7 +56,7 @@ impl Descriptor {
         ask(self.fd, READ, at) && io::read_full(self.fd, into) == into.len()
     }
 
-    /// Writes bytes to the file from the offset `at` on. False where that fails: the file may then
+    /// Writes bytes to the file from the offset `at` on. False if that fails: the file may then
     /// hold any bytes there.
     pub fn write(self, at: u64, bytes: &[u8]) -> bool {
         if bytes.is_empty() {
@@ -66,8 +66,8 @@ impl Descriptor {
     }
 
     /// Returns the identity of the descriptor's file: a number that all descriptors of that file
-    /// have, and those of another file have not. `None` where the system has none, as for a
-    /// descriptor that is closed.
+    /// have, and those of another file have not. `None` if the system has none, as for a descriptor
+    /// that is closed.
     pub fn file(self) -> Option<u128> {
         let mut identity = [0; 16];
         if !ask(self.fd, IDENTITY, 0) || io::read_full(self.fd, &mut identity) != identity.len() {
@@ -76,13 +76,13 @@ impl Descriptor {
         Some(u128::from_be_bytes(identity))
     }
 
-    /// Syncs the file. False where that fails.
+    /// Syncs the file. False if that fails.
     pub fn flush(self) -> bool {
         ask(self.fd, FLUSH, 0)
     }
 
     /// Returns the errno of the call that failed last in this thread, of whatever descriptor: after
-    /// a call here that failed, its own, as long as no other was made. 0 where none has failed.
+    /// a call here that failed, its own, as long as no other was made. 0 if none has failed.
     pub fn failure(self) -> i32 {
         let mut errno = [0; 4];
         if !ask(self.fd, FAILURE, 0) || io::read_full(self.fd, &mut errno) != errno.len() {

@@ -51,7 +51,7 @@ impl DeviceFile {
         self.calls
     }
 
-    /// The errno of the call that failed last; 0 where none has.
+    /// The errno of the call that failed last; 0 if none has.
     pub fn error(&self) -> i32
         ensures { result ≡ self.now.error }
     {
@@ -86,7 +86,7 @@ impl DeviceFile {
         false
     }
 
-    /// Syncs the file. False where that fails, or has failed before: the errno is then that of the
+    /// Syncs the file. False if that fails, or has failed before: the errno is then that of the
     /// flush that failed.
     pub fn flush(&mut self) -> bool
         ensures remembers { Remembers self.old result self.new }

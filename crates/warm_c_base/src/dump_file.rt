@@ -19,7 +19,7 @@ impl FileWriter {
         FileWriter { descriptor, at: 0 }
     }
 
-    // Writes these bytes where the next ones go. False where that fails.
+    // Writes these bytes where the next ones go. False if that fails.
     fn put(&mut self, bytes: &[u8]) -> bool
         ensures moves { IsTrue result → self.new.at ≡ self.old.at + length bytes.now }
         ensures stays { result ≡ false → self.new ≡ self.old }
@@ -73,7 +73,7 @@ impl FileReader {
     }
 
     // Reads the next bytes, as many as there is room for and are left, and returns how many; `None`
-    // where that fails.
+    // if that fails.
     fn take(&mut self, into: &mut [u8]) -> Option<usize>
         ensures moves { IfSome result (λ n. self.new.at ≡ self.old.at + n) }
         ensures most { IfSome result (λ n. n ≤ length into.old) }

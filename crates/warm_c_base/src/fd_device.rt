@@ -28,8 +28,8 @@ impl FdDevice {
     ghost use Rattle.warm_c_base.specs.FdParts.{fd_opened, fd_state};
 
     /// Creates a device of `pages` pages of `page_size` bytes over the descriptor of this number,
-    /// of which nothing is asked yet. `None` exactly where the pages do not fit into 2^63 - 1
-    /// bytes, which is what a file's offsets can name.
+    /// which is not called yet. `None` exactly if the pages do not fit into 2^63 - 1 bytes, which
+    /// is what a file's offsets can name.
     pub fn new(fd: i32, pages: u64, page_size: usize) -> Option<FdDevice>
         ensures opened { IfSome result (λ device.
             fd_state device ≡ fd_opened fd pages page_size) }
@@ -67,7 +67,7 @@ impl FdDevice {
         }
     }
 
-    /// Returns the errno of the call that failed last; 0 where none has.
+    /// Returns the errno of the call that failed last; 0 if none has.
     pub fn error(&self) -> i32
         ensures { result ≡ self.now.file.error }
     {

@@ -1,4 +1,4 @@
-//! What the library for C stands on, beside nodes: devices and files over file descriptors, and
+//! What the library for C is built on, beside nodes: devices and files over file descriptors, and
 //! pages, slots, counts and statuses as C has them.
 //!
 //! - An [`FdDevice`] is a page device over a [`Descriptor`] that the engine opened. [`devices_of`]

@@ -114,7 +114,7 @@ impl WarmSlot {
     }
 }
 
-/// Returns the page, where there is one; `page` means nothing where there is none.
+/// Returns the page, if there is one; `page` means nothing if there is none.
 pub fn page_if(is_there: bool, page: WarmPage) -> Option<PageId>
     ensures { result ≡ page_if is_there page }
 {
@@ -123,16 +123,15 @@ pub fn page_if(is_there: bool, page: WarmPage) -> Option<PageId>
 
 /// Returns a bool of C.
 ///
-/// It is a number here, and not a `bool`, where a call writes it: what a caller of C never wrote
-/// may be none, and is none of what this reads.
+/// A number, not a `bool`: a call writes it over memory of a caller of C. That memory may hold no
+/// valid `bool` before, and is never read.
 pub fn c_bool(holds: bool) -> u8
     ensures { IsBool result (IsTrue holds) }
 {
     if holds { 1 } else { 0 }
 }
 
-/// Writes whether there is a page, as a bool of C, and which; `page` is unchanged where there is
-/// none.
+/// Writes whether there is a page, as a bool of C, and which; `page` is unchanged if there is none.
 pub fn put_page(given: Option<PageId>, found: &mut u8, page: &mut WarmPage)
     ensures { IsOptionalPage given page.old found.new page.new }
 {
@@ -146,7 +145,7 @@ pub fn put_page(given: Option<PageId>, found: &mut u8, page: &mut WarmPage)
 }
 
 /// Writes whether there is a dirty frame, as a bool of C, which, and its page; `frame` and `page`
-/// are unchanged where there is none.
+/// are unchanged if there is none.
 pub fn put_dirty(given: Option<DirtyFrame>, found: &mut u8, frame: &mut usize, page: &mut WarmPage)
     ensures { IsOptionalDirty given frame.old page.old found.new frame.new page.new }
 {

@@ -7,7 +7,7 @@ use Rattle.warm_stamps.specs.declared.Reference.{Reference}
 use Rattle.warm_history.specs.ReferenceSets.{ReferenceSet, set_of_list, ◌∪◌}
 use Rattle.warm_history.specs.References.{IsIn}
 use Rattle.warm_history.specs.Histories.{references_of}
-use Rattle.warm_turn.specs.CallHistories.{marked}
+use Rattle.warm_turn.specs.CallHistories.{as_spent}
 use Rattle.warm_peer.specs.Answers.{refs_in}
 use Rattle.warm_shards.specs.Parts.{part_of_batch}
 use Rattle.warm_shards.specs.Shards.{of_first_shards, of_shard, shard_of}
@@ -31,8 +31,8 @@ use Rattle.warm_concurrent.specs.Answering.{AnswerFails, AnswersPart, OfferFails
 use Rattle.warm_concurrent.specs.Gossip.{DigestsStop, ReceiveStops, RequestStops}
 use Rattle.warm_concurrent.specs.Whole.{AbsorbFails, Does, RaiseFails, RaisesFirst, TakeFails, history_message, part_call}
 use Rattle.warm_concurrent.proofs.GivenLemmas.{EachGives, Gives, absorbed_each, all_given, answer_gives, as_given, gathered_each, given_as, given_by_sum, given_none, given_then, gives_as, gives_called, gives_none, message_each, none_twice, raised_each, taken_each}
-use Rattle.warm_concurrent.proofs.LawsHold.{below}
-use Rattle.warm_concurrent.proofs.Sets.{none_union, same_self, sum, union_none}
+use Rattle.warm_concurrent.proofs.LawLemmas.{below}
+use Rattle.warm_concurrent.proofs.ReferenceSetLemmas.{none_union, same_self, sum, union_none}
 
 -- ---- calls of one shard
 
@@ -87,7 +87,7 @@ called_given old new i c r lt answered =
 
 -- ---- a call that gave nothing
 
-gives_spent : (old new : ShardPass) → new.view ≡ marked old.view → Gives (set_of_list []) old new
+gives_spent : (old new : ShardPass) → new.view ≡ as_spent old.view → Gives (set_of_list []) old new
 gives_spent old new is = (
   [],
   record {
@@ -101,7 +101,7 @@ gives_spent old new is = (
 abbrev pub nothing : ℕ → ReferenceSet
 nothing i = set_of_list []
 
--- where one shard gave nothing, and the others were not called
+-- if one shard gave nothing, and the others were not called
 one_nothing : (old new : List ShardPass) (i : ℕ) → i < length old → KeepsOtherPasses old i new
     → Gives (set_of_list []) (shard_pass old i) (shard_pass new i)
     → EachGives nothing (length old) old new
@@ -134,7 +134,7 @@ sum_nothing : (n : ℕ) → sum nothing n ≡ set_of_list []
 sum_nothing zero = refl
 sum_nothing (suc n) = union_none (sum nothing n) ∙ sum_nothing n
 
--- where some shards gave nothing, and the others were not called
+-- if some shards gave nothing, and the others were not called
 gave_nothing : (k : ℕ) (old new : List ShardPass) → EachGives nothing k old new
     → HasGivenNothing old new
 gave_nothing k old new given =
@@ -247,7 +247,7 @@ first_parts S k old new le given =
       others = λ i high. given.others i (omega (arith, high, le));
     }
 
--- where the first k shards have their parts, and nothing more was given
+-- if the first k shards have their parts, and nothing more was given
 stopped : (S : ReferenceSet) (k : ℕ) (old mid new : List ShardPass) → k ≤ length old
     → EachGives (λ i. of_shard (length old) i S) k old mid → EachGives nothing (length mid) mid new
     → HasGiven (given_to_first (length old) k S) old new
@@ -291,7 +291,7 @@ take_stopped message k why old new (mid, lt, taken, inr fails) =
     stopped (refs_in message) k old mid new (omega (arith, lt)) (taken_each message k old mid taken)
     (fails_each mid new k (part_call (length old) message k) why (λ w. refl) (omega (arith, lt, taken.count)) fails)
 
--- where all shards were raised, and then nothing was given
+-- after all shards are raised, and nothing more is given
 after_raise : (time : ℕ) (old mid new : List ShardPass) → RaisesFirst time (length old) old mid
     → EachGives nothing (length mid) mid new
     → HasGiven (given_to_first (length old) (length old) (only_horizon time)) old new

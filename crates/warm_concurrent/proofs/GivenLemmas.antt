@@ -25,8 +25,8 @@ use Rattle.warm_shard_machine.specs.Laws.{Log}
 use Rattle.warm_concurrent.specs.Gossip.{Compares, ShardsReceive, ShardsTakeDigests, ShardsTakeRequest}
 use Rattle.warm_concurrent.specs.Laws.{all_of}
 use Rattle.warm_concurrent.specs.Whole.{AbsorbsFirst, AbsorbsPart, First, RaisesFirst, RaisesShard, TakesFirst, TakesPart, part_call}
-use Rattle.warm_concurrent.proofs.Places.{push_each}
-use Rattle.warm_concurrent.proofs.Sets.{all_of_push, gave_append, sum, sum_is, union_none}
+use Rattle.warm_concurrent.proofs.ListLemmas.{push_each}
+use Rattle.warm_concurrent.proofs.ReferenceSetLemmas.{all_of_push, gave_append, sum, sum_is, union_none}
 
 -- ---- one pass
 
@@ -119,7 +119,7 @@ made T old new (suc k) each =
           ∙ (λ i. rest.3 i ∪ last.2 i),
     )
 
--- where each pass gave one of these sets, all gave what the sets are together
+-- if each pass gave one of these sets, all gave what the sets are together
 pub given_by_sum : (T : ℕ → ReferenceSet) (S : ReferenceSet) (old new : List ShardPass)
     → ((i : ℕ) → i < length old → Gives (T i) (shard_pass old i) (shard_pass new i))
     → SameGiven (sum T (length old)) S → HasGiven S old new
@@ -134,7 +134,7 @@ given_by_sum T S old new each same =
       subst (λ U. SameGiven U S) (sym calls.3) same,
     )
 
--- where each pass gave its part of a set, all gave the set
+-- if each pass gave its part of a set, all gave the set
 pub all_given : (S : ReferenceSet) (old new : List ShardPass) → IsShardCount (length old)
     → EachGives (λ i. of_shard (length old) i S) (length old) old new → HasGiven S old new
 all_given S old new count each =
@@ -196,7 +196,7 @@ compared_each digests own messages old new (request, is, none, some) = cases req
         let all = some (λ z. let no : suc n ≡ 0 = sym at ∙ z in absurd (omega (arith, no))) in
         answered_each request all.0 old new all.1
 
--- where all are raised, and then nothing is given, the horizon is
+-- if all shards are raised, and then nothing is given, they were given the horizon alone
 only_raised : (time : ℕ) (old mid new : List ShardPass) → RaisesFirst time (length old) old mid
     → EachGives (λ i. set_of_list []) (length mid) mid new
     → EachGives (λ i. only_horizon time) (length old) old new

@@ -1,7 +1,7 @@
 -- A call of one shard leaves the passes of the turns.
 use Rattle.std.proofs.Common.{◌≡◌, ℕ, ◌<◌, List, length, set, Some, sym, ap, subst, ◌∙◌, arith, ◌++◌}
 use Rattle.std.proofs.lemmas.List.{get_or-set_same, length-set}
-use Rattle.warm_turn.specs.CallHistories.{Called, marked}
+use Rattle.warm_turn.specs.CallHistories.{Called, as_spent}
 use Rattle.warm_shard_machine.specs.declared.calls.ShardCall.{ShardCall}
 use Rattle.warm_shard_machine.specs.declared.calls.ShardReply.{ShardReply}
 use Rattle.warm_concurrent.specs.Attached.{AreOf, AreTurns, IsPassOf, KeepsOtherPasses, Known, ShardPass, ShardTurn, known_of, no_pass, shard_pass, shard_turn}
@@ -27,7 +27,7 @@ may_answer v w c r o opens called own =
     let own' : IsOwn last.0.count last.0.number c = subst (λ n. IsOwn last.0.count n c) number (subst (λ n. IsOwn n o.number c) count own) in
     (last.0.node, legal.1.node, own_step last.0 legal.1 c r own' last.2)
 
--- where one pass changes and is still of its turn, all are of their turns
+-- if one pass changes and is still of its turn, all are of their turns
 pub still_of : (turns : List ShardTurn) (old : List ShardPass) (i : ℕ) (p : ShardPass)
     → AreOf turns old → i < length turns → IsPassOf (shard_turn turns i) p
     → AreOf turns (set old i p)
@@ -58,10 +58,10 @@ module _ (turns : List ShardTurn) (old : List ShardPass) (i : ℕ) (p : ShardPas
     others_kept old i p there,
   )
 
-  pub spent : (n : ShardPass) → n ≡ shard_pass old i → p.view ≡ marked n.view
+  pub spent : (n : ShardPass) → n ≡ shard_pass old i → p.view ≡ as_spent n.view
       → Spent old i (set old i p)
   spent n is mark = (
-    ap (λ (q : ShardPass). q.view) (at_set old i p there) ∙ mark ∙ ap (λ (q : ShardPass). let v : Known = marked q.view in v) is,
+    ap (λ (q : ShardPass). q.view) (at_set old i p there) ∙ mark ∙ ap (λ (q : ShardPass). let v : Known = as_spent q.view in v) is,
     others_kept old i p there,
   )
 
@@ -79,7 +79,7 @@ module _ (turns : List ShardTurn) (old : List ShardPass) (i : ℕ) (p : ShardPas
       still_of turns old i p are lt (record { table = table ∙ of_turn n is; opens = called.opening ∙ opened_with n is })
 
   pub spent_of : (n : ShardPass) → n ≡ shard_pass old i → p.table ≡ n.table
-      → p.view ≡ marked n.view → AreOf turns (set old i p)
+      → p.view ≡ as_spent n.view → AreOf turns (set old i p)
   spent_of n is table mark =
       still_of turns old i p are lt (record { table = table ∙ of_turn n is; opens = ap (λ (v : Known). v.opening) mark ∙ opened_with n is })
 

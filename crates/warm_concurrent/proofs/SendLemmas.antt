@@ -1,4 +1,4 @@
--- Where devices may go to another thread, so may what a thread has of shards, and shards may be
+-- If devices may go to another thread, so may what a thread has of shards, and shards may be
 -- shared.
 use denote.RattleType.{RattleType}
 use denote.Param.Send.{IsSend, IsSync, sendable, struct_send}

@@ -95,7 +95,7 @@ pub record IsPartOf (count i request part : ℕ) : Type 0 where
       ↔ ((bit_at request bucket ≡ 1) × (shard_of_bucket count bucket ≡ i))
 
 -- A shard gave the entries of those requested buckets that are its own, in these messages, in one
--- turn. Where there are none its turn was not entered, and there is no message.
+-- turn. If there are none, its turn was not entered, and there is no message.
 abbrev pub AnswersPart : ℕ → ℕ → List Message → ℕ → ShardPass → ShardPass → Type 0
 AnswersPart count request messages i old new = (part : ℕ) × IsPartOf count i request part
     × (part ≡ 0 → (messages ≡ []) × (new ≡ old))

@@ -1,6 +1,6 @@
 -- Definitions for the contracts of shared shards.
 use Rattle.std.specs.Prelude.{◌≡◌, ℕ, ◌<◌, ◌≤◌, List, length, Result, Ok, Err}
-use Rattle.warm_turn.specs.CallHistories.{Called, marked}
+use Rattle.warm_turn.specs.CallHistories.{Called, as_spent}
 use Rattle.warm_gossip.specs.declared.fault.NodeFault.TheVariants.{StaleSlot}
 use Rattle.warm_shard_machine.specs.declared.calls.ShardCall.{ShardCall}
 use Rattle.warm_shard_machine.specs.declared.calls.ShardReply.{ShardReply}
@@ -23,7 +23,7 @@ AnsweredByShard old i call reply new = Got (known_of old i) call reply (known_of
 
 -- no ticket was left for a call of this shard
 abbrev pub Spent : List ShardPass → ℕ → List ShardPass → Type 0
-Spent old i new = (known_of new i ≡ marked (known_of old i)) × KeepsOtherPasses old i new
+Spent old i new = (known_of new i ≡ as_spent (known_of old i)) × KeepsOtherPasses old i new
 
 -- the shard of this number refused the call for this reason, or no ticket was left for it
 abbrev pub CallFails : List ShardPass → ℕ → ShardCall → SharedFault → List ShardPass → Type 0
@@ -38,7 +38,7 @@ CallEnds old i call reply (Ok given) new = AnsweredByShard old i call (reply giv
 CallEnds old i call reply (Err why) new = CallFails old i call why new
 
 -- the result of a call with a slot corresponds to the reply of the slot's shard, or to its refusal;
--- where there is no such shard the slot is stale, and no turn was entered
+-- if there is no such shard, the slot is stale, and no turn was entered
 abbrev pub SlotCallEnds : {T : Type 0} → List ShardPass → ℕ → ShardCall → (T → ShardReply)
     → Result T SharedFault → List ShardPass → Type 0
 SlotCallEnds old i call reply result new =

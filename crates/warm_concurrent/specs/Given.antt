@@ -85,8 +85,8 @@ gave_together logs = all_of (map gave logs)
 
 -- The log of a closed shard: a legal list of its calls leads from its opening to the node that is
 -- given back. It begins with what the pass has seen, has the calls of the pass, and of each pass
--- that was ended into it the calls of that one. Where the pass has the whole right to close, there
--- are no others.
+-- that was ended into it the calls of that one. If the pass has the whole right to close, there are
+-- no others.
 pub record IsLog (turn : ShardTurn) (known : Known) (node : NodeState) (log : Log) : Type 0 where
   pub last : ShardState
   pub node_is : last.node ≡ node
@@ -216,7 +216,7 @@ FillsFrame (Change page) = Unit {0}
 FillsFrame WarmStep = Unit {0}
 FillsFrame call = ⊥
 
--- The page that a shard names as its victim, and each that leaves it where a page is put into a
+-- The page that a shard names as its victim, and each that leaves it when a page is put into a
 -- frame, is farthest back over these references, among its unpinned resident pages.
 pub record VictimsOver (G : ReferenceSet) (was : ShardState) (call : ShardCall)
     (reply : ShardReply) (is : ShardState) : Type 0 where

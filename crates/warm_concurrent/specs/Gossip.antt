@@ -35,7 +35,7 @@ abbrev pub IsDifferent : List (List ℕ) → Offered → ℕ → Type 0
 IsDifferent digests own request = (request < 2 ^ 64) × MarksDiffering request digests own.digests
 
 -- The answer to digests beside an offer: the entries of the buckets that differ, and then a request
--- for these; nothing, and no turn was entered, where none differs.
+-- for these; nothing, and no turn was entered, if none differs.
 abbrev pub Compares : List (List ℕ) → Offered → List Message → List ShardPass → List ShardPass
     → Type 0
 Compares digests own messages old new = (request : ℕ) × IsDifferent digests own request

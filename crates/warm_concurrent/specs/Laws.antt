@@ -55,8 +55,8 @@ StandForEach [] [] = Unit {0}
 StandForEach (h ∷ hs) (S ∷ Ss) = StandsFor h S × StandForEach hs Ss
 StandForEach _ _ = ⊥
 
--- where each shard has the history of the references that it was given, all together have that of
--- all the references that all were given
+-- if each shard has the history of the references that it was given, all together have that of all
+-- the references that all were given
 abbrev pub TogetherAreOfGiven : Type 0
 TogetherAreOfGiven = (hs : List HistoryView) (Ss : List ReferenceSet) → StandForEach hs Ss
     → StandsFor (history (held_by hs)) (all_of Ss)
@@ -67,7 +67,7 @@ TogetherAreOfGiven = (hs : List HistoryView) (Ss : List ReferenceSet) → StandF
 abbrev pub SeesMore : List ShardPass → List ShardPass → Type 0
 SeesMore old new = (i : ℕ) → i < length old → IsPrefix (known_of old i).seen (known_of new i).seen
 
--- `So` holds of what a thread has, before and after each call of one shard, also if it is refused,
+-- `So` holds of what a thread has, before and after each call of one shard, even if it is refused,
 -- and each call of several shards. A call of several shards that stops at one is such a call of the
 -- shards before, and a refused call of that one.
 pub record OverCalls (So : List ShardPass → List ShardPass → Type 0) : Type 0 where

@@ -88,7 +88,7 @@ pub record AreClosed (turns : List ShardTurn) (passes : List ShardPass)
   pub each : (i : ℕ) (d : Result NodeState Busy) → i < length turns
       → ClosesShard (shard_turn turns i) (known_of passes i) (slice_index_or nodes i d)
 
--- why shards are not closed, where the thread holds this many pins
+-- why shards are not closed, if the thread holds this many pins
 abbrev pub IsCloseRefused : ℕ → SharedFault → Type 0
 IsCloseRefused pins PinsHeld = pins ≢ 0
 IsCloseRefused pins (Node Memory) = pins ≡ 0

@@ -12,7 +12,7 @@ pub record KeepsRight (old new : List ShardPass) : Type 0 where
   pub count : length new ≡ length old
   pub shares : (i : ℕ) → i < length old → (known_of new i).share ≡ (known_of old i).share
 
--- a thread has the whole right to close each of so many shards
+-- a thread has the whole right to close each of this many shards
 abbrev pub HasWholeRight : ℕ → List ShardPass → Type 0
 HasWholeRight count passes = (i : ℕ) → i < count → IsWhole (known_of passes i).share
 

@@ -26,7 +26,7 @@ pub record First (So : ℕ → ShardPass → ShardPass → Type 0) (k : ℕ) (ol
   pub first : (i : ℕ) → i < k → So i (shard_pass old i) (shard_pass new i)
   pub others : (i : ℕ) → k ≤ i → shard_pass new i ≡ shard_pass old i
 
--- a shard absorbed its part of the batch in one turn. Where it has none, its turn was not entered
+-- a shard absorbed its part of the batch in one turn. If it has none, its turn was not entered
 abbrev pub AbsorbsPart : ℕ → List Reference → ℕ → ShardPass → ShardPass → Type 0
 AbsorbsPart count batch i old new =
     (part_of_batch count i batch ≡ [] → new ≡ old)

@@ -106,7 +106,7 @@ impl<D: PageDevice + Send> SharedShards<D> {
     /// What a further thread has of the shards. It has seen what this one has, and holds no pin. It
     /// gets half of what this one has of the right to close, and this one keeps the other half.
     ///
-    /// `AllocError` occurs only where an allocation fails; nothing has changed.
+    /// `AllocError` occurs only if an allocation fails; nothing has changed.
     pub fn attach(
         &self,
         alloc: Global,
@@ -129,7 +129,7 @@ impl<D: PageDevice + Send> SharedShards<D> {
     ///
     /// # Errors
     /// The other's count of pins is not 0; it is given back. Nothing has changed. The count alone
-    /// decides: where other threads removed the other's pins, it may remove as many of theirs.
+    /// decides: if other threads removed the other's pins, it may remove as many of theirs.
     pub fn detach(
         &self,
         attached: &mut Attached<D>,
@@ -156,14 +156,14 @@ impl<D: PageDevice + Send> SharedShards<D> {
     /// that a legal history of its shard reaches, which begins with what the thread has seen.
     ///
     /// `Busy` in place of a node: fewer calls of the shard were answered than begun, and the node
-    /// is lost. It does not occur where all other threads were detached into this one: then the
+    /// is lost. It does not occur if all other threads were detached into this one: then the
     /// thread has the whole right to close, and no page of the nodes is pinned, if none was when the
     /// shards were shared.
     ///
     /// # Errors
-    /// In this order: `PinsHeld`, where this thread's count of pins is not 0; `Node(Memory)`, where
-    /// an allocation fails. Nothing has changed, and both are given back.
-    #[tactic(auto, using(crate::proofs::ClosePins::closes_unpinned))]
+    /// In this order: `PinsHeld`, if this thread's count of pins is not 0; `Node(Memory)`, if an
+    /// allocation fails. Nothing has changed, and both are given back.
+    #[tactic(auto, using(crate::proofs::ClosedPinLemmas::closes_unpinned))]
     pub fn close(
         self,
         alloc: Global,

@@ -119,8 +119,8 @@ impl<D: PageDevice + Send> SharedShards<D> {
     /// shard at that shard's turn.
     ///
     /// # Errors
-    /// `TurnsSpent`, or `Node(Memory)`, where an allocation failed: in a shard, of whose number it
-    /// says so, or as the copies were joined. Nothing has changed in any shard.
+    /// `TurnsSpent`, or `Node(Memory)` if an allocation failed: in a shard, whose number the error
+    /// has, or as the copies were joined. Nothing has changed in any shard.
     pub fn history<R: Wait>(
         &self,
         rt: &R,
@@ -139,13 +139,13 @@ impl<D: PageDevice + Send> SharedShards<D> {
         Ok(copy)
     }
 
-    /// The `n` hottest pages of all shards, hottest first, or all where there are fewer: those of a
+    /// The `n` hottest pages of all shards, hottest first, or all if there are fewer: those of a
     /// copy of the history of all shards, which is made as by [`SharedShards::history`].
     /// [`SharedShards::warm_list_of`] lists those of one shard, without a copy.
     ///
     /// # Errors
-    /// Those of `history`; and `Node(Memory)` where no memory was left for the list, of which the
-    /// number says how many shards there are. Nothing has changed in any shard.
+    /// Those of `history`; and `Node(Memory)` if no memory was left for the list. Its number is
+    /// then how many shards there are. Nothing has changed in any shard.
     pub fn warm_list<R: Wait>(
         &self,
         rt: &R,
@@ -178,8 +178,8 @@ impl<D: PageDevice + Send> SharedShards<D> {
     /// anything. The copy is in memory twice until the answer is made.
     ///
     /// # Errors
-    /// Those of `history`; and `Node(Memory)`, where no memory was left for the answer, at the number
-    /// that says how many shards there are. Nothing has changed in any shard.
+    /// Those of `history`; and `Node(Memory)` if no memory was left for the answer. Its number is
+    /// then how many shards there are. Nothing has changed in any shard.
     pub fn answers<R: Wait>(
         &self,
         rt: &R,

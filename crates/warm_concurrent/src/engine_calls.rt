@@ -112,9 +112,9 @@ impl<D: PageDevice + Send> SharedShards<D> {
     /// pages again meanwhile, and later calls read them again. Allocation-free.
     ///
     /// # Errors
-    /// The shards before the number given have forgotten their pages, and the others have not:
-    /// `Node(Pool(NoDevice))`, where that shard has no device of this number; `Node(Pool(Fixed))`,
-    /// where one of its pages is pinned; or `TurnsSpent`.
+    /// The shards before that of the error have forgotten their pages, and the others have not. The
+    /// error is `Node(Pool(NoDevice))`, if its shard has no device of this number;
+    /// `Node(Pool(Fixed))`, if one of its pages is pinned; or `TurnsSpent`.
     pub fn forget_pages<R: Wait>(
         &self,
         rt: &R,

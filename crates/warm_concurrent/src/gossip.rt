@@ -148,7 +148,7 @@ fn put_last(messages: &mut Vec<Message>, message: Message) -> Result<(), AllocEr
 }
 
 // The entries of the buckets whose digests differ from those of an offer, and then a request for
-// these; nothing where none differs.
+// these; nothing if none differs.
 fn compare<D: PageDevice + Send, R: Wait>(
     rt: &R,
     alloc: Global,
@@ -301,7 +301,7 @@ impl<D: PageDevice + Send> SharedShards<D> {
     /// - To a request, each shard that has requested buckets answers with their entries, in one
     ///   turn, in the order of the shards.
     /// - To digests, each shard makes an offer, as by `offer`. The answer is the entries of the
-    ///   buckets whose digests differ, as to a request, and then a request for these; nothing where
+    ///   buckets whose digests differ, as to a request, and then a request for these; nothing if
     ///   none differs.
     ///
     /// A caller that does not trust its senders checks the times of a message with

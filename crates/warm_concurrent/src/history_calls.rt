@@ -165,11 +165,11 @@ impl<D: PageDevice + Send> SharedShards<D> {
     /// turn, in the order of the shards. The batch is read once.
     ///
     /// # Errors
-    /// `Node(Memory)` at shard 0: no memory was left for the parts; nothing has changed. Else the
-    /// shards before the number given have absorbed their parts, and the others have not:
-    /// `Node(Memory)`, where that shard had no memory for its part, or `TurnsSpent`. So a batch
-    /// whose pages are all of one shard is absorbed, or nothing has changed. To absorb the batch
-    /// once more does no harm.
+    /// `Node(Memory)` at shard 0: no memory was left for the parts; nothing has changed. Otherwise
+    /// the shards before that of the error have absorbed their parts, and the others have not. The
+    /// error is `Node(Memory)`, if that shard had no memory for its part, or `TurnsSpent`. So a
+    /// batch whose pages are all of one shard is absorbed, or nothing has changed. To absorb the
+    /// batch once more does no harm.
     pub fn absorb<R: Wait>(
         &self,
         rt: &R,
@@ -191,10 +191,10 @@ impl<D: PageDevice + Send> SharedShards<D> {
 
     /// Forgets all stamps before this time in each shard, each in one turn, in the order of the
     /// shards, in which the call `Raise` is answered. Returns the latest of the horizons that the
-    /// shards then have: `time`, or later where one had a later horizon. Allocation-free.
+    /// shards then have: `time`, or later if one had a later horizon. Allocation-free.
     ///
     /// # Errors
-    /// `TurnsSpent`: the shards before the number given have forgotten them, and the others have
+    /// `TurnsSpent`: the shards before that of the error have forgotten them, and the others have
     /// not.
     pub fn raise<R: Wait>(
         &self,
@@ -233,8 +233,8 @@ impl<D: PageDevice + Send> SharedShards<D> {
         Ok(horizon)
     }
 
-    /// The `n` hottest pages of a shard, hottest first, or all where there are fewer: one turn of
-    /// the shard, in which the call `WarmList` is answered. It says nothing of other shards:
+    /// The `n` hottest pages of a shard, hottest first, or all if there are fewer: one turn of the
+    /// shard, in which the call `WarmList` is answered. It says nothing of other shards:
     /// [`SharedShards::warm_list`] lists those of all.
     ///
     /// # Errors

@@ -97,10 +97,10 @@ impl<D: PageDevice + Send> SharedShards<D> {
     /// that are not before the later horizon. The other history is copied.
     ///
     /// # Errors
-    /// `Node(Memory)` at shard 0, where no memory was left for the entries: nothing has changed.
-    /// Else the shards before the number given have taken in their parts, and the others have not:
-    /// `Node(Memory)`, where no memory was left for that shard's part, or in the shard, or
-    /// `TurnsSpent`. To join once more does no harm.
+    /// `Node(Memory)` at shard 0, if no memory was left for the entries: nothing has changed.
+    /// Otherwise the shards before that of the error have taken in their parts, and the others have
+    /// not. The error is `Node(Memory)`, if no memory was left for that shard's part, or in the
+    /// shard, or `TurnsSpent`. To join once more does no harm.
     pub fn join<R: Wait>(
         &self,
         rt: &R,

@@ -36,11 +36,11 @@ pub fn threads_give()
     ensures two { TwoThreadsAreHeld }
 {}
 
-/// The page that a shard names as its victim, and each that leaves it where a page is pinned, looked
+/// The page that a shard names as its victim, and each that leaves it when a page is pinned, looked
 /// at, changed or warmed up, is an unpinned resident page of greatest backward 2-distance, over all
 /// references that the calls of all threads had given the shard until then, not older than its
-/// horizon. So it is in every legal run of the shard's calls, and each call that a thread saw
-/// answered stands in one.
+/// horizon. This holds in every legal run of the shard's calls, and each call that a thread saw
+/// answered is in such a run.
 pub fn shared_victims_are_farthest()
     ensures { SharedVictims }
 {}
@@ -80,8 +80,8 @@ pub fn pins_are_counted()
     ensures two { TwoThreadsUnpin }
 {}
 
-/// Where devices may go from one thread to another, threads may share shards, and what a thread has
-/// of them may go to it.
+/// If devices may go from one thread to another, threads may share shards, and what a thread has of
+/// them may go to it.
 pub fn shards_are_shared<D: PageDevice + Send>()
     ensures attached { IsSend (attached_row D.row D.PageDevice) }
     ensures shared { IsSync (shared_row D.row D.PageDevice) }

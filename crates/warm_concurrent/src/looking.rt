@@ -16,10 +16,10 @@ use warm_shards::shard_of;
 use warm_stamps::PageId;
 use warm_turn::{Pass, Turn};
 
-// Looks at a page in its shard, where other callers may have to be waited for.
+// Looks at a page in its shard, after a wait if other callers are there.
 //
-// It is one call, to which the page and the closure go in registers: it takes no room in a look that
-// waits for nobody, where each room would be cleared.
+// It is one call, to which the page and the closure go in registers: it takes no room in the frame
+// of a look that waits for nobody: all room there is cleared at each call.
 #[inline(never)]
 fn look_later<D: PageDevice + Send, R: Wait, T, F: FnOnce(&[u8]) -> T + Drop>(
     rt: &R,
@@ -85,8 +85,8 @@ fn change_at<D: PageDevice + Send, R: Wait, T, F: FnOnce(&mut [u8]) -> T + Drop>
 impl<D: PageDevice + Send> SharedShards<D> {
     /// Calls the closure with all bytes of a page where they lie, and returns what it returns: one
     /// turn of the page's shard, in which the call `Look` is answered. The page is pinned during
-    /// the turn, and loaded first where it isn't resident. No pin is needed before, and none is
-    /// left. Nothing is copied. Allocation-free. A miss holds up callers of this shard alone.
+    /// the turn, and loaded first if it isn't resident. No pin is needed before, and none is left.
+    /// Nothing is copied. Allocation-free. A miss holds up callers of this shard alone.
     ///
     /// The closure has the shard: other callers of the shard wait until it returns, and a closure
     /// that calls these shards waits forever.
@@ -130,8 +130,8 @@ impl<D: PageDevice + Send> SharedShards<D> {
 
     /// Calls the closure with all bytes of a page where they lie, to be written to, and returns
     /// what it returns: one turn of the page's shard, in which the call `Change` is answered. The
-    /// page is pinned during the turn, and loaded first where it isn't resident. What the closure
-    /// leaves in the bytes is the page's content. The page becomes dirty, even where nothing is
+    /// page is pinned during the turn, and loaded first if it isn't resident. What the closure
+    /// leaves in the bytes is the page's content. The page becomes dirty, even if nothing is
     /// written: it is written back before it is evicted. Nothing is copied. Allocation-free.
     ///
     /// The closure has the shard: other callers of the shard wait until it returns, and a closure

@@ -208,8 +208,8 @@ fn warm_next_in<D: PageDevice + Send, R: Wait>(
 }
 
 impl<D: PageDevice + Send> SharedShards<D> {
-    /// Pins a page in its shard, and loads it into a frame of that shard where it isn't resident:
-    /// one turn of the shard, in which the call `Pin` is answered. A miss holds up callers of this
+    /// Pins a page in its shard, and loads it into a frame of that shard if it isn't resident: one
+    /// turn of the shard, in which the call `Pin` is answered. A miss holds up callers of this
     /// shard alone.
     ///
     /// **A pin is not a reference**: a caller that pins a page also absorbs a reference to it.
@@ -247,9 +247,9 @@ impl<D: PageDevice + Send> SharedShards<D> {
     /// may have given it: a pin has no owner, and a thread may remove as many as it counts.
     ///
     /// # Errors
-    /// In this order: `NoPins`, where this thread holds no pin, and `Node(StaleSlot)`, where there
-    /// is no such shard; no turn was entered. `Node(StaleSlot)` from the shard, where the slot
-    /// doesn't hold its page there. `TurnsSpent`.
+    /// In this order: `NoPins`, if this thread holds no pin, and `Node(StaleSlot)`, if there is no
+    /// such shard; no turn was entered. `Node(StaleSlot)` from the shard, if the slot doesn't hold
+    /// its page there. `TurnsSpent`.
     pub fn unpin<R: Wait>(
         &self,
         rt: &R,
@@ -281,8 +281,8 @@ impl<D: PageDevice + Send> SharedShards<D> {
     /// the call `Read` is answered.
     ///
     /// # Errors
-    /// `Node(StaleSlot)`, where there is no such shard; no turn was entered. `Node`, with the fault
-    /// of [`warm_gossip::Node::read`] in the shard. `TurnsSpent`.
+    /// `Node(StaleSlot)`, if there is no such shard; no turn was entered. `Node`, with the fault of
+    /// [`warm_gossip::Node::read`] in the shard. `TurnsSpent`.
     pub fn read<R: Wait>(
         &self,
         rt: &R,
@@ -308,8 +308,8 @@ impl<D: PageDevice + Send> SharedShards<D> {
     /// slot's shard, in which the call `Read` of that length is answered. Allocation-free.
     ///
     /// # Errors
-    /// `Node(StaleSlot)`, where there is no such shard; no turn was entered. `Node`, with the fault
-    /// of [`warm_gossip::Node::read_into`] in the shard. `TurnsSpent`. `into` is then as it was.
+    /// `Node(StaleSlot)`, if there is no such shard; no turn was entered. `Node`, with the fault of
+    /// [`warm_gossip::Node::read_into`] in the shard. `TurnsSpent`. `into` is then as it was.
     pub fn read_into<R: Wait>(
         &self,
         rt: &R,
@@ -341,8 +341,8 @@ impl<D: PageDevice + Send> SharedShards<D> {
     /// call `Write` is answered.
     ///
     /// # Errors
-    /// `Node(StaleSlot)`, where there is no such shard; no turn was entered. `Node`, with the fault
-    /// of [`warm_gossip::Node::write`] in the shard. `TurnsSpent`. The bytes are dropped.
+    /// `Node(StaleSlot)`, if there is no such shard; no turn was entered. `Node`, with the fault of
+    /// [`warm_gossip::Node::write`] in the shard. `TurnsSpent`. The bytes are dropped.
     pub fn write<R: Wait>(
         &self,
         rt: &R,
@@ -366,8 +366,8 @@ impl<D: PageDevice + Send> SharedShards<D> {
         Ok(())
     }
 
-    /// The page of a shard that would be evicted next for another page of that shard, where there
-    /// is one: one turn of the shard, in which the call `Victim` is answered.
+    /// The page of a shard that would be evicted next for another page of that shard, if there is
+    /// one: one turn of the shard, in which the call `Victim` is answered.
     ///
     /// # Errors
     /// `TurnsSpent`.
@@ -411,11 +411,11 @@ impl<D: PageDevice + Send> SharedShards<D> {
         Ok(page)
     }
 
-    /// The page that [`SharedShards::warm_step`] of the shard would load now; `None` where there is
-    /// none: one turn of the shard, in which the call `WarmNext` is answered. Nothing is loaded. So
-    /// a thread warms a shard up with no turn held as it reads: it reads this page, pins it by
-    /// [`SharedShards::pin_filled`], and removes the pin. That is the warm-up step, unless another
-    /// call of the shard came in between.
+    /// The page that [`SharedShards::warm_step`] of the shard would load now; `None` if there is
+    /// none: one turn of the shard, in which the call `WarmNext` is answered. Nothing is loaded. By
+    /// this a thread warms a shard up, and holds no turn as it reads: it reads this page, pins it
+    /// by [`SharedShards::pin_filled`], and removes the pin. That is the warm-up step, unless
+    /// another call of the shard came in between.
     ///
     /// # Errors
     /// `Node(Memory)`: an allocation failed in the shard. `TurnsSpent`. Nothing has changed in any

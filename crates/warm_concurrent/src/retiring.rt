@@ -92,7 +92,7 @@ impl<D: PageDevice + Send> SharedShards<D> {
     ///
     /// # Errors
     /// `Node(Pool(..))`, with a fault and the effects of [`warm_gossip::Node::retire`] in the shard:
-    /// among them `Fixed`, where any thread has a pin on a page of the device. `TurnsSpent`. Each
+    /// among them `Fixed`, if any thread has a pin on a page of the device. `TurnsSpent`. Each
     /// gives the new device back.
     pub fn retire<R: Wait>(
         &self,

@@ -114,7 +114,7 @@ pub(crate) fn call_shard<D: PageDevice + Send, R: Wait>(
 }
 
 // Lets a visitor have the shard of one turn. It enters no other turn. The visitor is given back
-// where no ticket was left.
+// if no ticket was left.
 pub(crate) fn visit_or_back<D: PageDevice + Send, R: Wait, V: Visit<Shard<D>>>(
     rt: &R,
     turns: &Vec<Turn<Shard<D>>>,

@@ -13,7 +13,7 @@ use warm_shards::Shards;
 use warm_stamps::ReplicaId;
 use warm_turn::{Pass, Turn};
 
-/// Shards that are to be shared. Some may be behind turns already: where memory fails, nothing is
+/// Shards that are to be shared. Some may be behind turns already: if memory fails, nothing is
 /// lost, and sharing can be tried again.
 ///
 /// Contracts see the list of the shards, that of shard 0 first.
@@ -122,7 +122,7 @@ impl<D: PageDevice + Send> Sharing<D> {
     /// These shards, of which none is behind a turn.
     ///
     /// # Errors
-    /// Where an allocation fails, the shards are given back as they were.
+    /// If an allocation fails, the shards are given back as they were.
     pub fn new(alloc: Global, shards: Shards<D>) -> Result<Sharing<D>, Shards<D>>
         ensures shards { IfOk result (λ sharing. sharing ≡ shards_over shards) }
         ensures back { IfErr result (λ given. given ≡ shards) }
@@ -149,8 +149,8 @@ impl<D: PageDevice + Send> Sharing<D> {
     /// them.
     ///
     /// # Errors
-    /// Where an allocation fails, the shards are given back. Some may be behind turns then; to
-    /// share them, call this once more.
+    /// If an allocation fails, the shards are given back. Some may be behind turns then; to share
+    /// them, call this once more.
     pub fn share(self) -> Result<(SharedShards<D>, Attached<D>), Sharing<D>>
         ensures shards { IfOk result (λ r. openings r.0 ≡ self) }
         ensures of { IfOk result (λ r. AreOf r.0 r.1.passes) }

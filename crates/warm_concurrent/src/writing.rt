@@ -103,7 +103,7 @@ fn write_some_in<D: PageDevice + Send, R: Wait>(
     }
 }
 
-// Writes back a page of a shard, where it is dirty.
+// Writes back a page of a shard, if it is dirty.
 fn write_page_in<D: PageDevice + Send, R: Wait>(
     rt: &R,
     turns: &Vec<Turn<Shard<D>>>,
@@ -209,7 +209,7 @@ impl<D: PageDevice + Send> SharedShards<D> {
         Ok(left)
     }
 
-    /// Writes back one page, where it is resident and dirty, and returns whether it was: one turn of
+    /// Writes back one page, if it is resident and dirty, and returns whether it was: one turn of
     /// the page's shard, in which the call `WritePage` is answered. No device is flushed.
     /// Allocation-free.
     ///
@@ -233,9 +233,9 @@ impl<D: PageDevice + Send> SharedShards<D> {
         Ok(was_dirty)
     }
 
-    /// Writes back the dirty pages of one device of a shard, and flushes it where it is unflushed:
-    /// one turn of the shard, in which the call `FlushDevice` is answered. Each shard has a device
-    /// of its own of this number. Allocation-free.
+    /// Writes back the dirty pages of one device of a shard, and flushes it if it is unflushed: one
+    /// turn of the shard, in which the call `FlushDevice` is answered. Each shard has a device of
+    /// its own of this number. Allocation-free.
     ///
     /// # Errors
     /// `Node(Pool(NoDevice))`: the shard has no device of this number; nothing has changed.

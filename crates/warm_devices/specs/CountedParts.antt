@@ -34,6 +34,6 @@ one_write n = record n { writes = one_more n.writes }
 abbrev pub one_flush : DeviceCounts → DeviceCounts
 one_flush n = record n { flushes = one_more n.flushes }
 
--- the flush of a settled device, which is made where something is unflushed
+-- the flush of a device as it settles, which is made if something is unflushed
 abbrev pub flush_if_waiting : DeviceState → DeviceCounts → DeviceCounts
 flush_if_waiting d n = if d.waiting then one_flush n else n

@@ -35,7 +35,7 @@ pub record SameShape (old new : DeviceState) : Type 0 where
   pub honest : new.honest ≡ old.honest
   pub unfailing : new.unfailing ≡ old.unfailing
 
--- a fault can only be of this kind, and occurs exactly where the count of failures increased
+-- a fault can only be of this kind, and occurs exactly if the count of failures increased
 abbrev pub CountsFault : {T : Type 0} → DeviceFault → Result T DeviceFault → DeviceState
     → DeviceState → Type 0
 CountsFault kind result old new =
@@ -65,11 +65,11 @@ pub record ChangesPage (page : ℕ) (old new : List (List ℕ)) : Type 0 where
 abbrev pub ChangesOnly : ℕ → DeviceState → DeviceState → Type 0
 ChangesOnly page old new = ChangesPage page old.contents new.contents
 
--- a read returns the bytes of the page, where the device is honest
+-- a read returns the bytes of the page, if the device is honest
 abbrev pub GivesPage : DeviceState → ℕ → List ℕ → Type 0
 GivesPage device page bytes = IsTrue device.honest → bytes ≡ page_at device.contents page
 
--- the page has the written bytes afterwards, where the device is honest
+-- the page has the written bytes afterwards, if the device is honest
 abbrev pub TakesPage : DeviceState → ℕ → List ℕ → DeviceState → Type 0
 TakesPage old page bytes new = IsTrue old.honest → page_at new.contents page ≡ bytes
 

@@ -22,14 +22,13 @@ file_state f = record {
 abbrev pub flush_failed : FileDevice → Bool
 flush_failed f = f.flush_failed
 
--- a flush succeeds only where none has failed before, and one that fails is remembered
+-- a flush succeeds only if none has failed before, and one that fails is remembered
 abbrev pub RemembersFailure : Result (Unit {0}) DeviceFault → FileDevice → FileDevice → Type 0
 RemembersFailure result old new =
     MatchResult result (λ _. (flush_failed old ≡ false) × (flush_failed new ≡ false))
     (λ _. flush_failed new ≡ true)
 
--- Where a flush has failed before, what is unflushed stays so. A flush that fails here is
--- remembered.
+-- If a flush has failed before, what is unflushed stays so. A flush that fails here is remembered.
 pub record SettlesUnlessFailed (old new : FileDevice) : Type 0 where
   pub refused : IsTrue (flush_failed old) → SameWaiting (file_state old) (file_state new)
   pub remembered : flush_failed new ≡ (flush_failed old || (file_state new).waiting)

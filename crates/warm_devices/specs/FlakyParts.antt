@@ -11,7 +11,7 @@ use Rattle.warm_devices.specs.declared.flaky.Flaky.{Flaky}
 abbrev pub inner_of : {D : Type 0} {g : Ghosts D} → Flaky D g → D
 inner_of f = f.inner
 
--- the number of calls up to and including the one that fails, or 0 where none is to fail
+-- the number of calls up to and including the one that fails, or 0 if none is to fail
 abbrev pub calls_left : {D : Type 0} {g : Ghosts D} → Flaky D g → ℕ
 calls_left f = f.calls_left
 
@@ -52,9 +52,9 @@ TearsWhenDue {D} {g} page old new =
     calls_left old ≡ 1 → IsTrue (g.state old.inner).unfailing → IsTrue (g.state old.inner).honest
     → page_at (flaky_state new).contents page ≡ replicate (g.state old.inner).page_size 0xEE
 
--- A flush counts as a call where something is unflushed. Where the next call is the one that is to
--- fail, no flush reaches the inner device, and what is unflushed stays so; over an unfailing device
--- any other flush leaves nothing unflushed.
+-- A flush counts as a call if something is unflushed. If the next call is the one that is to fail,
+-- no flush reaches the inner device, and what is unflushed stays so; over an unfailing device any
+-- other flush leaves nothing unflushed.
 pub record SettlesUnlessDue {D : Type 0} {g : Ghosts D} (old new : Flaky D g) : Type 0 where
   pub counted : calls_left new
       ≡ (if (flaky_state old).waiting then calls_left old - 1 else calls_left old)

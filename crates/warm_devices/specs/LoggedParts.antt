@@ -38,8 +38,8 @@ may_refuse d = record d {
   unfailing = false;
 }
 
--- One call of this kind was made of the device below, and no other. It was refused only where that
--- device counted a failure, and not where that device is unfailing.
+-- One call of this kind was made of the device below, and no other. It was refused only if that
+-- device counted a failure, and never if that device is unfailing.
 pub record PassesOn {D L : Type 0} (state : D → DeviceState) (kind : DeviceFault)
     (result : Result (Unit {0}) DeviceFault) (old new : Logged D L) : Type 0 where
   pub once : CountsCall kind (state (device_of old)) (state (device_of new))
@@ -47,8 +47,8 @@ pub record PassesOn {D L : Type 0} (state : D → DeviceState) (kind : DeviceFau
   pub unfailing : IsTrue (state (device_of old)).unfailing → IsOk result
   pub refused : refused_of new ≡ refused_of old
 
--- Where something is unflushed, one flush was made of the device below, else no call. Afterwards
--- nothing is unflushed, where that device is unfailing.
+-- If something is unflushed, one flush was made of the device below, else no call. Afterwards
+-- nothing is unflushed, if that device is unfailing.
 pub record PassesSettleOn {D L : Type 0} (state : D → DeviceState)
     (old new : Logged D L) : Type 0 where
   pub once : (state (device_of new)).calls
@@ -58,7 +58,7 @@ pub record PassesSettleOn {D L : Type 0} (state : D → DeviceState)
       → (logged_state state new).waiting ≡ false
   pub refused : refused_of new ≡ refused_of old
 
--- The log was asked for this page and these bytes. Where it answered "not yet", the write failed,
+-- The log was asked for this page and these bytes. If it answered "not yet", the write failed,
 -- a refusal is counted, and the device below was not called. Else the write was passed on.
 pub record AsksFirst {D L : Type 0} (state : D → DeviceState)
     (answers : L → ℕ → List ℕ → Result (Unit {0}) NotYet → L → Type 0)

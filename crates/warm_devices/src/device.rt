@@ -71,9 +71,9 @@ pub trait PageDevice: Drop {
     /// Only `Flush`. What was unflushed is still unflushed. The contents that reads return are
     /// unchanged, whether it fails or not.
     ///
-    /// A later flush may succeed where the device can still make these pages durable. A device over
-    /// a file cannot know that, since the system may have dropped them: there each later flush
-    /// fails too, until the file is opened again.
+    /// A later flush may succeed if the device can still make these pages durable. A device over a
+    /// file cannot know that, since the system may have dropped them: there each later flush fails
+    /// too, until the file is opened again.
     fn flush(&mut self) -> Result<(), DeviceFault>
         ensures shape { SameShape (state self.old) (state self.new) }
         ensures faults { CountsFault Flush result (state self.old) (state self.new) }
@@ -83,8 +83,8 @@ pub trait PageDevice: Drop {
         ensures failed { OnErr result ((state self.new).waiting ≡ (state self.old).waiting) }
         ensures contents { (state self.new).contents ≡ (state self.old).contents };
 
-    /// Flushes where something is unflushed. Afterwards nothing is unflushed, or the flush failed
-    /// and `failures` increased by one.
+    /// Flushes if something is unflushed. Afterwards nothing is unflushed, or the flush failed and
+    /// `failures` increased by one.
     fn settle(&mut self)
         ensures shape { SameShape (state self.old) (state self.new) }
         ensures settled { Settles (state self.old) (state self.new) }

@@ -9,8 +9,8 @@ use thiserror::Error;
 /// Why a call of a device failed: a read fails only with `Read`, a write with `Write`, and a flush
 /// with `Flush`.
 ///
-/// Each occurs only where the device's count of failures increased by one in that call. An
-/// allocation failure is not among them, since these calls are allocation-free.
+/// Each occurs only if the device's count of failures increased by one in that call. An allocation
+/// failure is not among them, since these calls are allocation-free.
 #[derive(Clone, Copy, PartialEq, Eq, Debug, Error)]
 pub enum DeviceFault {
     /// 1: the page could not be read; contents are unchanged.
@@ -83,7 +83,7 @@ impl OpenFault {
     }
 }
 
-/// Converts the system's error on opening a file: `Memory` where memory ran out, otherwise `Open`.
+/// Converts the system's error on opening a file: `Memory` if memory ran out, otherwise `Open`.
 impl From<io::Error> for OpenFault {
     ghost use Rattle.std.specs.Prelude.{◌≡◌};
     ghost use Rattle.std.specs.IoError.{error_kind};

@@ -45,13 +45,13 @@ fn open_sized<R: Files<File = File>>(files: &R, path: &str, len: u64) -> io::Res
 impl FileDevice {
     ghost use Rattle.warm_devices.specs.FileParts.{file_state, flush_failed};
 
-    /// Opens the file at `path` as a device of `pages` pages of `page_size` bytes, creates it where
-    /// it does not exist, and extends a shorter one with zeros. A longer one keeps its length.
+    /// Opens the file at `path` as a device of `pages` pages of `page_size` bytes, creates it if it
+    /// does not exist, and extends a shorter one with zeros. A longer one keeps its length.
     ///
     /// # Errors
-    /// `Open` where the system fails to open, create or extend the file, or where the pages exceed
-    /// 2^63 - 1 bytes, which is checked before any system call; `Memory` where the system or the
-    /// allocator had no memory.
+    /// `Open` if the system fails to open, create or extend the file, or if the pages exceed 2^63 -
+    /// 1 bytes, which is checked before any system call; `Memory` if the system or the allocator
+    /// had no memory.
     pub fn open<R: Files<File = File>>(
         files: &R,
         path: &str,
@@ -159,7 +159,7 @@ impl PageDevice for FileDevice {
         Ok(())
     }
 
-    /// Syncs the file. It fails also where an earlier flush of this device failed.
+    /// Syncs the file. It also fails if an earlier flush of this device failed.
     fn flush(&mut self) -> Result<(), DeviceFault>
         ensures shape { SameShape (file_state self.old) (file_state self.new) }
         ensures faults { CountsFault Flush result (file_state self.old) (file_state self.new) }

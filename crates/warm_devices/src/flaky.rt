@@ -15,8 +15,8 @@ static TORN: [u8; MAX_PAGE_SIZE] = [0xEE; MAX_PAGE_SIZE];
 /// its own; each other one makes exactly this call of the inner device.
 pub struct Flaky<D: PageDevice> {
     inner: D,
-    /// The number of calls up to and including the one that fails; 0 once it has failed, or where
-    /// none is to fail.
+    /// The number of calls up to and including the one that fails; 0 once it has failed, or if none
+    /// is to fail.
     calls_left: u64,
     failed: u64,
     calls: CallsMade,
@@ -26,8 +26,8 @@ pub struct Flaky<D: PageDevice> {
 impl<D: PageDevice> Flaky<D> {
     ghost use Rattle.warm_devices.specs.FlakyParts.{inner_of, calls_left, flaky_state, may_fail};
 
-    /// Forwards calls to `inner` and fails the `n`-th, or none where `n` is 0. The pages have at
-    /// most `MAX_PAGE_SIZE` bytes.
+    /// Forwards calls to `inner` and fails the `n`-th, or none if `n` is 0. The pages have at most
+    /// `MAX_PAGE_SIZE` bytes.
     pub fn new(inner: D, n: u64) -> Flaky<D>
         requires { (D.PageDevice.state inner).page_size ≤ MAX_PAGE_SIZE }
         ensures inner { inner_of result ≡ inner }

@@ -3,12 +3,12 @@
 //!
 //! [`PageDevice`] is the contract that a buffer pool relies on. Contracts see a device as plain
 //! data, its `state`: the number and the size of its pages, their contents, whether a written page
-//! is still unflushed, and how many of its calls have failed. A call fails only where the count of
+//! is still unflushed, and how many of its calls have failed. A call fails only if the count of
 //! failures increased by one in that call; a count of `u64::MAX` stays and counts as increased.
 //!
 //! A device declares whether it is *honest* (its reads return the bytes last written) and whether
 //! it is *unfailing* (its calls never fail). [`MemDevice`] is both, [`Flaky`] and [`Logged`] are
-//! honest where the device within is, [`Counted`] is what the device within is, and [`FileDevice`]
+//! honest if the device within is, [`Counted`] is what the device within is, and [`FileDevice`]
 //! claims neither, since no proof can say what a file holds.
 #![tactic(auto)]
 

@@ -19,7 +19,7 @@ pub trait PageLog: Drop {
     /// page, so a log may use the call to make itself durable.
     ///
     /// # Errors
-    /// `NotYet` where it isn't durable as far as these bytes need it.
+    /// `NotYet` if it isn't durable as far as these bytes need it.
     fn before_write(&mut self, no: u64, bytes: &[u8]) -> Result<(), NotYet>
         ensures { answers self.old no bytes.now result self.new };
 }

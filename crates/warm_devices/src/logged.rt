@@ -7,7 +7,7 @@ use crate::{CallsMade, DeviceFault, PageDevice};
 /// A wrapper of a device that asks a log before each write, so that no page reaches the device
 /// before the log entries that it needs are durable ("write-ahead").
 ///
-/// Where the log answers "not yet", the write fails: the device below isn't called, a failure is
+/// If the log answers "not yet", the write fails: the device below isn't called, a failure is
 /// counted, and the device is unflushed until the next flush. A pool then keeps the page resident
 /// and dirty, and its call answers `WriteBack` or `Fault`. Each other call makes exactly this call
 /// of the device below, and answers as that one does.

@@ -45,7 +45,7 @@ impl MemDevice {
     /// A device of zero pages: `pages` of them, of `page_size` bytes each.
     ///
     /// # Errors
-    /// Where the allocation of the pages fails, or their size exceeds any memory.
+    /// If the allocation of the pages fails, or their size exceeds any memory.
     pub fn new(alloc: Global, pages: u64, page_size: usize) -> Result<MemDevice, AllocError>
         ensures { IfOk result (λ device. device ≡ zeroed pages page_size) }
     {

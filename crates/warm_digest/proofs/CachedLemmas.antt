@@ -19,11 +19,11 @@ use Rattle.warm_digest.specs.CachedDigests.{HasDigestsOf, SameDigestsOutside, Ar
 abbrev digest_from : List Entry → List ℕ
 digest_from es = sha256 (entries_bytes es)
 
--- a bit of two sets of buckets together is clear where both are
+-- a bit of the union of two sets of buckets is clear only if it is clear in both
 both_clear : (a b i : ℕ) → bit_at (bit_or a b) i ≡ 0 → (bit_at a i ≡ 0) × (bit_at b i ≡ 0)
 both_clear a b i clear = let is = bit_at_or a b i in (omega (arith, is, clear), omega (arith, is, clear))
 
--- the digests that are not marked stay right where the buckets are marked whose entries change
+-- the digests that are not marked stay right if the buckets whose entries change are marked
 pub kept_as_marked : (es fs : List Entry) (old changed now : ℕ) (digests : List (List ℕ))
     → now ≡ bit_or old changed → AreCurrent old es digests → MarksChanged es fs changed
     → AreCurrent now fs digests

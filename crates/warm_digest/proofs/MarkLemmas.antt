@@ -45,7 +45,7 @@ losing_stay horizon h old lost now both loses bucket low =
       ]),
     )
 
--- where the history is the same at the horizon nothing is lost, so no bucket stays marked
+-- if the history is the same at the horizon, nothing is lost, so no bucket stays marked
 none_stay : (horizon : ℕ) (h : HistoryView) (old new : ℕ) → raised horizon h ≡ h → new ≡ 0
     → StaysMarked horizon h old new
 none_stay horizon h old new same none bucket low =
@@ -54,7 +54,7 @@ none_stay horizon h old new same none bucket low =
       (λ both. absurd (both.1 (ap (λ (g : HistoryView). bucket_entries bucket (entries_of g)) same))),
     )
 
--- the same where a result is Ok
+-- the same if a result is Ok
 pub none_stay_if : {A E : Type 0} (r : Result A E) (horizon : ℕ) (h : HistoryView) (old new : ℕ)
     → raised horizon h ≡ h → OnOk r (new ≡ 0) → OnOk r (StaysMarked horizon h old new)
 none_stay_if (Ok a) horizon h old new same none = none_stay horizon h old new same none

@@ -23,7 +23,7 @@ digests_of h = map (bucket_digest h) (range_with_len 0 BUCKETS)
 abbrev pub digests_at_horizon : ℕ → HistoryView → List (List ℕ)
 digests_at_horizon horizon h = digests_of (entries_of (raised horizon h))
 
--- a bit of the set is set exactly where the digests of the bucket of its number differ
+-- a bit of the set is set exactly if the digests of the bucket of its number differ
 abbrev pub MarksDiffering : ℕ → List (List ℕ) → List (List ℕ) → Type 0
 MarksDiffering buckets left right = (bucket : ℕ) → bucket < BUCKETS → (bit_at buckets bucket ≡ 1)
     ↔ (digest_at left bucket ≢ digest_at right bucket)

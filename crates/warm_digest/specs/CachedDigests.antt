@@ -30,14 +30,14 @@ pub record DigestedView : Type 0 where
   pub history : HistoryView
   pub marked : ℕ
 
--- a bucket is marked now exactly where it was marked before, or its entries have changed
+-- a bucket is marked now exactly if it was marked before, or its entries have changed
 abbrev pub MarksChanges : DigestedView → DigestedView → Type 0
 MarksChanges old new = (bucket : ℕ) → bucket < BUCKETS
     → (bit_at new.marked bucket ≡ 1)
     ↔ ((bit_at old.marked bucket ≡ 1)
     ⊎ ChangesIn bucket (entries_of old.history) (entries_of new.history))
 
--- a bucket stays marked exactly where it was marked and would lose a stamp at the horizon
+-- a bucket stays marked exactly if it was marked and would lose a stamp at the horizon
 abbrev pub StaysMarked : ℕ → HistoryView → ℕ → ℕ → Type 0
 StaysMarked horizon h old new = (bucket : ℕ) → bucket < BUCKETS → (bit_at new bucket ≡ 1)
     ↔ ((bit_at old bucket ≡ 1) × LosesIn horizon bucket h)

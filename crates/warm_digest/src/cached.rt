@@ -18,8 +18,8 @@ use warm_history::{CutEntries, Entry, History};
 use warm_stamps::{BUCKETS, Bucket, BucketSet};
 
 // The hasher is given the bytes of entries once they are as many as this, so that it hashes whole
-// blocks where they are: given one entry at a time, it takes a tenth longer. Twice as many gain
-// less than a hundredth.
+// blocks in place: given one entry at a time, it takes a tenth longer. Twice as many gain less than
+// a hundredth.
 const HASHED_SIZE: usize = 4_096;
 
 /// The digests of a history's buckets as they were when each was last computed.
@@ -64,7 +64,7 @@ impl Digests {
     /// Recomputes the digests of these buckets from this history; every other digest is unchanged.
     ///
     /// Costs a scan of the entries of these buckets, and hashing their bytes. For an empty set it
-    /// costs nothing and never fails. `AllocError` occurs only where the allocation of a buffer of
+    /// costs nothing and never fails. `AllocError` occurs only if the allocation of a buffer of
     /// 4,096 bytes and one entry fails, and changes nothing.
     pub fn renew(&mut self, history: &History, buckets: BucketSet) -> Result<(), AllocError>
         ensures wanted { OnOk result (HasDigestsOf buckets (entries_of history.now) self.new) }

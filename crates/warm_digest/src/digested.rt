@@ -137,8 +137,8 @@ impl DigestedHistory {
     /// Forgets all stamps before this time, as [`History::raise`] does. It marks the buckets that
     /// lose a stamp, and returns the set of them.
     ///
-    /// Where the time is later than the horizon, finding them costs one more scan of each bucket,
-    /// up to its first older stamp.
+    /// If the time is later than the horizon, finding them costs one more scan of each bucket, up
+    /// to its first older stamp.
     pub fn raise(&mut self, time: u64) -> BucketSet
         ensures exact { self.new.history
             ≡ history (with_horizon time (references_of self.old.history)) }
@@ -166,9 +166,9 @@ impl DigestedHistory {
 
     /// The digests of the buckets. Afterwards no bucket is marked.
     ///
-    /// Costs nothing where no bucket is marked, and then never fails; otherwise it costs what
-    /// [`Digests::renew`] costs for the marked buckets. `AllocError` occurs only where that
-    /// allocation fails; the marks stay, and the next call recomputes the same digests.
+    /// Costs nothing if no bucket is marked, and then never fails; otherwise it costs what
+    /// [`Digests::renew`] costs for the marked buckets. `AllocError` occurs only if that allocation
+    /// fails; the marks stay, and the next call recomputes the same digests.
     pub fn digests(&mut self) -> Result<DigestTable, AllocError>
         ensures table { IfOk result (λ table. table ≡ digests_of (entries_of self.old.history)) }
         ensures same { self.new.history ≡ self.old.history }
@@ -184,13 +184,13 @@ impl DigestedHistory {
     /// The digests that the buckets would have if the history were raised to a horizon: what
     /// [`DigestedHistory::digests`] would return then.
     ///
-    /// Nothing is forgotten. Where the horizon is not greater than the history's own, it is the
-    /// same as [`DigestedHistory::digests`]. Otherwise each bucket is scanned up to its first older
+    /// Nothing is forgotten. If the horizon is not greater than the history's own, it is the same
+    /// as [`DigestedHistory::digests`]. Otherwise each bucket is scanned up to its first older
     /// stamp. Only the buckets that have such a stamp, and the marked ones, are hashed: their
-    /// entries as they are read, without older stamps. Afterwards a bucket is marked exactly where
-    /// it was marked before and has such a stamp: its digest was computed without older stamps, and
-    /// is still to be computed with them. `AllocError` occurs only where the allocation of a buffer
-    /// of 4,096 bytes and one entry fails; the marks stay, and the next call computes the same
+    /// entries as they are read, without older stamps. Afterwards a bucket is marked exactly if it
+    /// was marked before and has such a stamp: its digest was computed without older stamps, and is
+    /// still to be computed with them. `AllocError` occurs only if the allocation of a buffer of
+    /// 4,096 bytes and one entry fails; the marks stay, and the next call computes the same
     /// digests.
     pub fn digests_at_horizon(&mut self, horizon: u64) -> Result<DigestTable, AllocError>
         ensures table { IfOk result (λ table. table ≡ digests_at_horizon horizon self.old.history) }

@@ -29,7 +29,7 @@ use warm_stamps::{Bucket, BucketSet};
 
 /// The digests of a history's buckets, all recomputed. It scans the history once, bucket by bucket.
 ///
-/// `AllocError` occurs only where the allocation of a buffer of 4,096 bytes and one entry fails.
+/// `AllocError` occurs only if the allocation of a buffer of 4,096 bytes and one entry fails.
 pub fn digests(alloc: Global, history: &History) -> Result<DigestTable, AllocError>
     ensures { IfOk result (λ table. table ≡ digests_of (entries_of history.now)) }
 {

@@ -16,7 +16,7 @@ references_of_entries-append (e ∷ es) more = ap (λ t. references_of_entry e +
 same_sets : (S T : ReferenceSet) → S.horizon ≡ T.horizon → S.given ≡ T.given → history S ≡ history T
 same_sets S T horizon references = λ i. history (record { horizon = horizon i; given = references i })
 
--- where nothing waits, the history is all
+-- if nothing waits, the history is all
 pub nothing_waits : (h : HistoryView) (n : List Entry) → IsHistory h → n ≡ []
     → join h (history_of_entries_at h.horizon n) ≡ h
 nothing_waits h n whole none = ap (λ (es : List Entry). join h (history_of_entries_at h.horizon es)) none ∙ raised_to_no_later h h.horizon whole (le_refl h.horizon)
@@ -59,7 +59,7 @@ pub taken : (old new : HistoryView) (horizon : ℕ) (es : List Entry)
     → TakesIn old (references_of (history_of_entries_at horizon es)) new
 taken old new horizon es is = λ S stands. is ∙ ap (λ (h : HistoryView). history (references_of h ∪ references_of (history_of_entries_at horizon es))) stands ∙ history_first S (references_of (history_of_entries_at horizon es))
 
--- a history that stands for references stands for the later ones where it was raised
+-- a history that stands for references stands for them at the later horizon once it is raised
 pub stands_raised : (old new : HistoryView) (horizon : ℕ) (S : ReferenceSet)
     → new ≡ raised horizon old → StandsFor old S
     → StandsFor new (S ∪ record { horizon = horizon; given = [] })

@@ -48,7 +48,7 @@ bucket_more sender horizon left some =
     ap text_of (entry_messages-cons sender horizon left some)
     ∙ flat_map-cons encoding (Entries sender horizon (take MAX_ENTRIES left)) (entry_messages sender horizon (drop MAX_ENTRIES left))
 
--- what a bucket's messages add to the writer, where that of a chunk was written after some others
+-- what a bucket's messages add to the writer, if those of a chunk were written after some others
 pub chunk_more : (sender horizon : ℕ) (out text : List ℕ) (chunk left next : List Entry)
     → chunk ≡ take MAX_ENTRIES left → next ≡ drop MAX_ENTRIES left → 0 < length chunk
     → out ++ text_of (entry_messages sender horizon left) ≡ text

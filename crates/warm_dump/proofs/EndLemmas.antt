@@ -1,4 +1,4 @@
--- What a reader's bytes are, where it was read to its end or up to a fault.
+-- What a reader's bytes are after they were read to the end, or up to a fault.
 use Rattle.std.proofs.Common.{ℕ, List, ◌++◌, Option, Some, None, Result, Ok, Err, IfSome, IfOk, IfErr, OnOk, sym, ap, subst, ◌∙◌, append-nil}
 use Rattle.std.specs.Io.KnownBytes.{Consumes, IsAtEnd}
 

@@ -476,7 +476,7 @@ pub whole_rejected : (seen piece : List ℕ) (fed : Fed) (frame : Message) (why 
 whole_rejected seen piece fed frame why old mid next g feeds some history known x =
     message_rejected seen piece fed.taken frame why old mid g (λ b is. (fed_inside piece fed (Some frame) old.decoder next feeds some b is).1) history known x
 
--- what holds at a fault holds where a `?` passes the fault on
+-- what holds at a fault holds if a `?` passes the fault on
 pub passed_on : {T E : Type 0} (r : Result T E) (e : E) (P : E → Type 0) → IsErrAnd r (λ y. y ≡ e)
     → P e → IfErr r P
 passed_on (Ok x) e P is p = tt

@@ -26,7 +26,7 @@ abbrev pub AreAt : Option ℕ → List Message → Type 0
 AreAt None messages = messages ≡ []
 AreAt (Some horizon) messages = (0 < length messages) × AreEntriesAt horizon messages
 
--- the references that messages with one horizon bring; none where no message came
+-- the references that messages with one horizon bring; none if no message came
 abbrev pub references_brought : Option ℕ → List Message → ReferenceSet
 references_brought None messages = set_of_list []
 references_brought (Some horizon) messages = references_in horizon messages
@@ -45,7 +45,7 @@ pub record HasBegun (text : List ℕ) (g : DumpReader) : Type 0 where
   pub bytes_read : g.bytes_read ≡ length text
   pub frame_start : g.frame_start + length begun ≡ length text
 
--- the text is what a reader got through: a dump, where the digests came, or the beginning of one
+-- the text is what a reader got through: a dump, if the digests came, or the beginning of one
 abbrev pub HasRead : List ℕ → DumpReader → Type 0
 HasRead text g = ((g.complete ≡ true) × (g.frame_start ≡ length text) × IsDump text g.history)
     ⊎ ((g.complete ≡ false) × HasBegun text g)

@@ -22,8 +22,8 @@ const SHARE: usize = 8;
 // A history, and entries that wait until they are joined to it together. Contracts see the history
 // of both.
 //
-// Entries of a bucket of which the history has none become its map at once, where they are joined
-// together: that is faster than message by message, and takes less memory. So they wait while one
+// If the history has no entry of a bucket, entries of it that are joined together become its map at
+// once. That is faster than message by message, and takes less memory. So entries wait while one
 // message continues where the one before it ended. At most [`MAX_ENTRIES`] wait, or an eighth as
 // many as the history has.
 #[derive(Drop)]
@@ -61,8 +61,8 @@ fn has_digests(alloc: Global, history: &History, table: &DigestTable) -> Result<
     Ok(own == *table)
 }
 
-// Whether these entries are of one bucket, where their pages ascend: the first and the last one
-// are.
+// Whether these entries are of one bucket. Their pages ascend, so it is enough that the first and
+// the last one are.
 fn are_of_one_bucket(entries: &[Entry]) -> bool {
     let Some(first) = entries.first() else {
         return false;

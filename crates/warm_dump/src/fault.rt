@@ -10,8 +10,8 @@ use warm_frames::FrameFault;
 #[derive(Clone, Copy, Debug, PartialEq, Eq, Error)]
 pub enum DumpFault {
     /// 1 to 11: the fault of a frame, with its number. `Memory` is any allocation failure.
-    /// `BadKind` is also a request where entries or digests are expected. `Truncated` and `Failed`
-    /// do not occur.
+    /// `BadKind` is also a request in place of entries or digests. `Truncated` and `Failed` do not
+    /// occur.
     #[error("{0}")]
     Frame(FrameFault),
     /// 13: the bytes end before the digests do.

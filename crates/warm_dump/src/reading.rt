@@ -246,7 +246,7 @@ impl DumpReader {
         Err(DumpFault::ReadFault)
     }
 
-    // Returns the history, where the digests came.
+    // Returns the history, if the digests came.
     #[tactic(auto, using(crate::proofs::ReadLemmas::ended_dump, crate::proofs::ReadLemmas::ended_short))]
     fn finish(self) -> Result<History, DumpError>
         ensures dump { IfOk result (λ h. (seen : List ℕ) → HasRead seen self → IsDump seen h) }

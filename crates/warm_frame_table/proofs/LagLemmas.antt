@@ -97,7 +97,7 @@ updated contest i f key there is = record {
       (lags_low key f (subst (λ k. exceeds key k ≡ false) (sym is) (itself key_cmp key_order key)));
 }
 
--- or only where that is less than what it had
+-- it was given the page's rank if that is less than what it had
 pub updated_lower : (contest : List (Option RankKey)) (i : ℕ) (f : FrameState)
     (key : Option RankKey)
     → i < length contest → f.key ≡ key → IsUpdated contest i f (lowered key_cmp contest i key)

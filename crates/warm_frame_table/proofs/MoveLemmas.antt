@@ -26,7 +26,7 @@ other_next next y None to ne = refl
 other_next next y (Some x) to ne = get_or-set_other next x y to 0 (λ e. ne (ap Some (sym e)))
 
 -- Frame f changes from one chain into another, and the link to it in chain b now leads on to `to`.
--- Where `to` is the first frame of b after each frame from which f was the next, all links of the
+-- If `to` is the first frame of b after each frame from which f was the next, all links of the
 -- frames but f's are right again.
 module _ (frames heads next : List ℕ) (b f v to : ℕ) (last : Option ℕ) (lt : f < length frames)
     (in_heads : b < length heads) (chains : AreChains frames heads next)

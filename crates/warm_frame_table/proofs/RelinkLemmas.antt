@@ -31,7 +31,7 @@ one_more n out [] lt = absurd (omega arith)
 one_more zero out (chain ∷ frames) lt = refl
 one_more (suc n) out (chain ∷ frames) lt = ap (λ rest. out ∷ rest) (one_more n out frames (omega arith))
 
--- where each head is the number of frames, no chain has a frame, whatever the links are
+-- if each head is the number of frames, no chain has a frame, whatever the links are
 pub none_yet : (frames heads next : List ℕ) (room : ℕ) → heads ≡ replicate room (length frames)
     → length next ≡ length frames
     → AreChains (linked_from (length frames) (length heads) frames) heads next

@@ -59,7 +59,7 @@ changed (q ∷ ps) (r ∷ ss) [] (suc i) p s b = refl
 changed (q ∷ ps) (r ∷ ss) (c ∷ bs) zero p s b = refl
 changed (q ∷ ps) (r ∷ ss) (c ∷ bs) (suc i) p s b = ap (λ fs. frame_of q r c ∷ fs) (changed ps ss bs i p s b)
 
--- where a frame is, its page, its status and its body are
+-- if there is a frame of index i, there are its page, its status and its body
 pub within : (ps : List (Option PageId)) (ss : List Status) (bs : List FrameBody) (i : ℕ)
     → i < length (frames_of ps ss bs)
     → (i < length ps) × (i < length ss) × (i < length bs)
@@ -88,7 +88,7 @@ module _ {ps : List (Option PageId)} {ss : List Status} {bs : List FrameBody}
   pub has_page : (i : ℕ) → i < length v.frames → i < length ps
   has_page i h = subst (λ n. i < n) (count ps ss bs t.status_each t.body_each) (subst (λ w. i < length w.frames) (sym e) h)
 
-  -- where the vector of statuses, or that of bodies, has this length
+  -- the same of a vector of statuses, or of bodies, of length n
   pub has_status : (i : ℕ) → i < length v.frames → {n : ℕ} → n ≡ length ss → i < n
   has_status i h count = subst (λ n. i < n) (sym (count ∙ t.status_each)) (has_page i h)
 
@@ -114,7 +114,7 @@ module _ {ps : List (Option PageId)} {ss : List Status} {bs : List FrameBody}
       → b ≡ get_or bs i (fresh_body [])
   body_is i h b x same is = same ∙ get_or_read bs i x (has_body i h refl) is (fresh_body [])
 
--- the rank left in a frame is that of its page, where it has one
+-- the rank left in a frame is that of its page, if it has one
 pub rank_of_page : (page : Option PageId) (key : Option RankKey) → page ≢ None
     → rank_in page key ≡ key
 rank_of_page None key some = absurd (some refl)
@@ -148,7 +148,7 @@ become {ps} {ps'} {ss} {ss'} {bs} {bs'} {i} {p} {s} {b} c =
     ap (λ xs. frames_of xs ss' bs') c.pages ∙ ap (λ xs. frames_of (set ps i p) xs bs') c.statuses
     ∙ ap (λ xs. frames_of (set ps i p) (set ss i s) xs) c.bodies ∙ changed ps ss bs i p s b
 
--- the frames that are seen, where the one that changed is what the change makes of it
+-- the frames that are seen, if the changed one is what the change makes of it
 pub becomes : {ps ps' : List (Option PageId)} {ss ss' : List Status} {bs bs' : List FrameBody}
     {contest : _} {size : ℕ} {v : FramesState} {p : Option PageId} {s : Status} {b : FrameBody}
     → AreTied ps ss bs contest → kept size ps ss bs ≡ v → (i : ℕ) → i < length v.frames
@@ -160,7 +160,7 @@ becomes {ps} {ps'} {ss} {ss'} {bs} {bs'} {size = size} t e i h c change is =
     ap (λ fs. record { page_size = size; frames = fs }) (become c ∙ ap (set (frames_of ps ss bs) i) (is ∙ ap change (sym here)))
     ∙ ap (λ w. changed_at w i change) e
 
--- they stay tied, where the contest was updated for the changed frame
+-- they stay tied, if the contest was updated for the changed frame
 pub stay_tied : {ps ps' : List (Option PageId)} {ss ss' : List Status} {bs bs' : List FrameBody}
     {contest contest' : _} {i : ℕ} {p : Option PageId} {s : Status} {b : FrameBody}
     → AreTied ps ss bs contest → Changes ps ss bs i p s b ps' ss' bs' → i < length ps

@@ -5,8 +5,8 @@ use Rattle.warm_frame_table.specs.Frames.{FrameState, FramesState}
 use Rattle.warm_frame_table.specs.FrameSteps.{changed_at}
 use Rattle.warm_frame_table.specs.contracts.frames.Frames.{the_row as frames_row}
 
--- As many of these bytes as there were before. What is lent keeps its length, so these are all of
--- them: where the lengths are equal, it is w.
+-- As many bytes as there were before: those of w, and then the old ones. Lent bytes keep their
+-- length, so w is as long as the old bytes, and these are w.
 abbrev pub refilled : List ℕ → List ℕ → List ℕ
 refilled old w = take (length old) (w ++ drop (length w) old)
 

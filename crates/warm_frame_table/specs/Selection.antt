@@ -17,7 +17,7 @@ abbrev pub is_from : ℕ → ℕ → Option PageId → Bool
 is_from dev first None = false
 is_from dev first (Some p) = (p.dev == dev) && nat_le first p.no
 
--- whether a frame with this page is selected: all frames are, where no device is named
+-- whether a frame with this page is selected: all frames are, if no device is named
 abbrev pub selects : Devices → Option PageId → Bool
 selects All page = true
 selects (One dev) page = is_on dev page

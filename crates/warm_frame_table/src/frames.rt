@@ -58,7 +58,7 @@ impl Frames {
     /// other call allocates.
     ///
     /// # Errors
-    /// `AllocError` where an allocation fails.
+    /// `AllocError` if an allocation fails.
     pub fn new(alloc: Global, frames: usize, page_size: usize) -> Result<Frames, AllocError>
         requires some { 0 < frames }
         requires few { frames ≤ MAX_FRAMES }
@@ -91,7 +91,7 @@ impl Frames {
         self.frames.len()
     }
 
-    /// The page in a frame; `None` where it has none.
+    /// The page in a frame; `None` if it has none.
     pub fn page(&self, at: usize) -> Option<PageId>
         requires { at < length self.now.frames }
         ensures { result ≡ (nth_frame self.now.frames at).page }
@@ -146,21 +146,21 @@ impl Frames {
         &self.frames[at].bytes
     }
 
-    /// The frame that holds the page; `None` where none does.
+    /// The frame that holds the page; `None` if none does.
     pub fn find(&self, page: PageId) -> Option<usize>
         ensures { IsPlaceOf (pages_held self.now.frames) page result }
     {
         self.page_table.find(page)
     }
 
-    /// The first frame without a page; `None` where each has one.
+    /// The first frame without a page; `None` if each has one.
     pub fn first_free(&self) -> Option<usize>
         ensures { IsFirstFree (pages_held self.now.frames) result }
     {
         self.page_table.first_free()
     }
 
-    /// The frame of the least rank among those of unpinned pages; `None` where each page is pinned.
+    /// The frame of the least rank among those of unpinned pages; `None` if each page is pinned.
     /// The contest catches up here: pins and ranks that have risen are not passed on to it as they
     /// come.
     pub fn least(&mut self) -> Option<usize>

@@ -48,7 +48,7 @@ impl PageTable {
     /// Frames without a page, up to [`MAX_FRAMES`] of them.
     ///
     /// # Errors
-    /// `AllocError` where their allocation fails.
+    /// `AllocError` if their allocation fails.
     pub(crate) fn new(alloc: Global, frames: usize) -> Result<PageTable, AllocError>
         requires few { frames ≤ MAX_FRAMES }
         ensures { IfOk result (λ page_table. page_table ≡ replicate frames None) }
@@ -174,7 +174,7 @@ fn count_held(pages: &[Option<PageId>]) -> usize
     count
 }
 
-// 1 where there is a page, else 0.
+// 1 if there is a page, else 0.
 fn one_if_held(page: Option<PageId>) -> usize
     ensures { result ≡ one_if_held page }
 {
@@ -198,8 +198,8 @@ fn no_pages(alloc: Global, frames: usize) -> Result<Vec<Option<PageId>>, AllocEr
     Ok(pages)
 }
 
-// The heads of the chains where no frame holds a page: only the last chain has frames, from the
-// first on.
+// The heads of the chains if no frame holds a page: only the last chain has frames, from the first
+// on.
 fn heads_of_none(alloc: Global, frames: usize) -> Result<Vec<u32>, AllocError>
     requires { frames ≤ MAX_FRAMES }
     ensures { IfOk result (λ heads. heads.items ≡ set (replicate (frames + 1) frames) frames 0) }

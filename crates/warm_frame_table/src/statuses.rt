@@ -34,7 +34,7 @@ impl Statuses {
     /// The statuses of frames without a page.
     ///
     /// # Errors
-    /// `AllocError` where their allocation fails.
+    /// `AllocError` if their allocation fails.
     pub(crate) fn new(alloc: Global, frames: usize) -> Result<Statuses, AllocError>
         ensures { IfOk result (λ statuses. statuses ≡ replicate frames unused_status) }
     {
@@ -130,7 +130,7 @@ fn recounted(count: usize, was: bool, is: bool) -> usize
     count - one_if(was) + one_if(is)
 }
 
-// 1 where it holds, else 0.
+// 1 if it holds, else 0.
 fn one_if(holds: bool) -> usize
     ensures { result ≡ one_if holds }
 {

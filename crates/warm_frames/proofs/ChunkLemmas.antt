@@ -50,7 +50,7 @@ pub entry_messages-cons : (sender horizon : ℕ) (es : List Entry) → 0 < lengt
 entry_messages-cons sender horizon es some =
     ap (λ (parts : List (List Entry)). map (λ chunk. Entries sender horizon chunk) parts) (chunks-cons MAX_ENTRIES es (omega arith) some)
 
--- the same after other messages, where as many entries were taken as there are, up to MAX_ENTRIES
+-- the same after other messages, if as many entries were taken as there are, up to MAX_ENTRIES
 pub message_more : (sender horizon : ℕ) (messages : List Message) (rest : List Entry)
     → 0 < length rest
     → (messages ++ Entries sender horizon (take (min MAX_ENTRIES (length rest)) rest) ∷ [])

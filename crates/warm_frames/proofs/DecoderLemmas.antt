@@ -41,7 +41,7 @@ pub inside : (old : DecoderState) (failed : Bool) (begun piece : List ℕ) (size
 inside old true begun piece size view knows = absurd (subst (λ (o : DecoderState). KnowsWith o piece size) (sym view) knows)
 inside old false begun piece size view knows = (refl, subst (λ (o : DecoderState). KnowsWith o piece size) (sym view) knows)
 
--- what is known where no size is, and where one is
+-- what is known if no size is known, and if one is
 pub said_none : (begun piece : List ℕ) (size : Option ℕ) → ((n : ℕ) → size ≡ Some n → ⊥)
     → SaysSize begun piece (Ok size) → SaysSize begun piece (Ok None)
 said_none begun piece None none says = says
@@ -151,7 +151,7 @@ size_up_to begun piece size n is end enough =
     let whole : frame_size (front ++ drop n piece) ≡ frame_size front = size_settled front (drop n piece) size (ap frame_size parts ∙ is) (omega (arith, len)) in
     sym whole ∙ ap frame_size parts ∙ is ∙ ap (λ (m : ℕ). Ok m) (sym len)
 
--- what was known stays, where nothing was taken
+-- what was known stays, if nothing was taken
 pub same_knows : (begun held : List ℕ) (known : Option ℕ) → held ≡ begun → KnowsSize begun known
     → KnowsSize held known
 same_knows begun held known is knows = subst (λ (h : List ℕ). KnowsSize h known) (sym is) knows

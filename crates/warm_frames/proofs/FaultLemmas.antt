@@ -138,7 +138,7 @@ pub frame_lasts : (start : Start) (body : List ℕ) → Only IsLasting (read_mes
 unfolding read_message
 frame_lasts start body = by_lasts start.kind start.format start.sender start.horizon body
 
--- ---- the header: it ends too soon only where fewer bytes are there than it has
+-- ---- the header: it ends too soon only if there are fewer bytes than it has
 
 abbrev pub ShortOrLasting : ℕ → ℕ → FrameFault → Type 0
 ShortOrLasting most len fault = ((fault ≡ Truncated) × (len < most)) ⊎ IsLasting fault

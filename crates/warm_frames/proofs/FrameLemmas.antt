@@ -159,7 +159,7 @@ body_takes format kind bytes body fits e =
       allowed = subst (λ (n : ℕ). may_have format kind n ≡ true) w.0 l.1;
     })
 
--- a body is read where nothing follows it
+-- a body is read if nothing follows it
 pub body_read : (format : Format) (kind : Kind) (body rest found : List ℕ) → length body < 2 ^ 32
     → may_have format kind (length body) ≡ true
     → body_at format kind (to_be_bytes w32 (length body) ++ (body ++ rest)) ≡ Ok found → rest ≡ []
@@ -361,7 +361,7 @@ pub encoding_is_injective : (bytes : List ℕ) (f g : Message) → Encodes bytes
     → f ≡ g
 encoding_is_injective bytes f g first second = ok_is f g (sym (frame_read bytes f first) ∙ frame_read bytes g second)
 
--- where an encoding is followed by more, no message is encoded
+-- if an encoding is followed by more, no message is encoded
 pub prefix_free : (text rest : List ℕ) (f g : Message) → Encodes text f → Encodes (text ++ rest) g
     → rest ≡ []
 unfolding read_frame

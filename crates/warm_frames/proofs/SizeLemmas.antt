@@ -456,7 +456,7 @@ fault_for_good bytes more e f shown encodes = no_frame bytes more e f shown (fra
 
 -- ---- for a decoder
 
--- where nothing has come, nothing is known
+-- if nothing has come, nothing is known
 pub nothing_short : (bytes : List ℕ) → bytes ≡ [] → frame_size bytes ≡ Err Truncated
 unfolding frame_size start_at
 nothing_short bytes none = ap frame_size none

@@ -83,7 +83,7 @@ pub in_pieces : (calls : List Feeding) (rest : List ℕ) → Feedings (Inside []
     → Splits (taken_in calls) (messages_given calls) rest
 in_pieces calls rest run = fed_from calls (Inside rest) rest refl [] nothing_is_part run
 
--- and where a fault follows, the bytes up to it show it
+-- and if a fault follows, the bytes up to it show it
 pub fault_in_pieces : (calls : List Feeding) (begun piece : List ℕ) (fault : FrameFault)
     → Feedings (Inside []) calls (Inside begun) → Breaks begun piece fault Broken
     → Fails (taken_in calls ++ piece) (messages_given calls) fault
@@ -114,7 +114,7 @@ longer a x b y same le = sym (take-append-drop (length a) b) ∙ ap (λ (w : Lis
 pub no_empty_frame : (f : Message) → Encodes [] f → ⊥
 no_empty_frame f encodes = no_ok (sym (nothing_is_part 0) ∙ frame_read [] f encodes)
 
--- where one message's encoding is a prefix of another's, the two are equal
+-- if one message's encoding is a prefix of another's, the two are equal
 front_text : (s t : List ℕ) (f g : Message) (x y : List ℕ) → Encodes s f → Encodes t g
     → s ++ x ≡ t ++ y → length s ≤ length t → s ≡ t
 front_text s t f g x y is_f is_g same le =
@@ -123,7 +123,7 @@ front_text s t f g x y is_f is_g same le =
     let none : rest ≡ [] = prefix_free s rest f g is_f (subst (λ (w : List ℕ). Encodes w g) parts is_g) in
     sym (append-nil s) ∙ ap (λ (r : List ℕ). s ++ r) (sym none) ∙ sym parts
 
--- where two frames begin one text they are one
+-- if one text begins with either of two frames, the two are equal
 pub first_text : (s t : List ℕ) (f g : Message) (x y : List ℕ) → Encodes s f → Encodes t g
     → s ++ x ≡ t ++ y → s ≡ t
 first_text s t f g x y is_f is_g same =

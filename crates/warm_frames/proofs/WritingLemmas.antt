@@ -17,7 +17,7 @@ pub bytes_and_one : (es : List Entry) (e : Entry)
     → entries_bytes (es ++ e ∷ []) ≡ entries_bytes es ++ entry_bytes e
 bytes_and_one es e = flat_map-append entry_bytes es (e ∷ []) ∙ ap (λ (w : List ℕ). entries_bytes es ++ w) (append-nil (entry_bytes e))
 
--- and so where the entries are the first of a list
+-- the same of the first entries of a list
 pub entries_and_one : (es : List Entry) (i : ℕ) (e : Entry) → i < length es → e ≡ get_or es i e
     → entries_bytes (take (i + 1) es) ≡ entries_bytes (take i es) ++ entry_bytes e
 entries_and_one es i e lt is = rw (take_more es i e lt, ← is) (bytes_and_one (take i es) e)

@@ -18,12 +18,12 @@ abbrev pub chunks : {A : Type 0} → ℕ → List A → List (List A)
 chunks size xs = chunks_of size (length xs) xs
 
 -- the entries in messages of MAX_ENTRIES entries each but the last, each with this sender and
--- horizon; none where there are no entries
+-- horizon; none if there are no entries
 abbrev pub entry_messages : ℕ → ℕ → List Entry → List Message
 entry_messages sender horizon es =
     map (λ chunk. Entries sender horizon chunk) (chunks MAX_ENTRIES es)
 
--- a bucket of the history in messages; none where it is empty
+-- a bucket of the history in messages; none if it is empty
 abbrev pub bucket_messages : ℕ → HistoryView → ℕ → List Message
 bucket_messages sender h bucket =
     entry_messages sender h.horizon (bucket_entries bucket (entries_of h))

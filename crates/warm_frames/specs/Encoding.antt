@@ -26,7 +26,7 @@ abbrev pub magic_of : Format → ℕ
 magic_of Narrow = NARROW_MAGIC
 magic_of Wide = MAGIC
 
--- the horizon, where the format has one
+-- the horizon, if the format has one
 abbrev pub horizon_bytes : Format → ℕ → List ℕ
 horizon_bytes Narrow horizon = []
 horizon_bytes Wide horizon = to_be_bytes w64 horizon

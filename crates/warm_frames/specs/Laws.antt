@@ -22,8 +22,8 @@ abbrev pub InPieces : Type 0
 InPieces = (calls : List Feeding) (rest : List ℕ) → Feedings (Inside []) calls (Inside rest)
     → Splits (taken_in calls) (messages_given calls) rest
 
--- Where a decoder finds a fault in a piece, the stream up to the piece's end encodes the messages
--- that it returned, and is then bytes that show the fault.
+-- If a decoder finds a fault in a piece, the stream up to the piece's end encodes the messages that
+-- it returned, and is then bytes that show the fault.
 abbrev pub FaultInPieces : Type 0
 FaultInPieces = (calls : List Feeding) (begun piece : List ℕ) (fault : FrameFault)
     → Feedings (Inside []) calls (Inside begun) → Breaks begun piece fault Broken

@@ -43,8 +43,8 @@ abbrev pub IsReading : {X Y : Type 0} → (X → Y) → Result X FrameFault → 
 IsReading view (Ok x) read = read ≡ Ok (view x)
 IsReading view (Err e) read = read ≡ Err e
 
--- A field is a value and the bytes after it. Where too few bytes are left, the fault is the given
--- one. This field is of n bytes.
+-- A field of n bytes: a value and the bytes after it. If too few bytes are left, the fault is the
+-- given one.
 abbrev pub front_at : ℕ → FrameFault → List ℕ → Result (List ℕ × List ℕ) FrameFault
 front_at n short bytes =
     if nat_lt (length bytes) n then Err short else Ok (take n bytes, drop n bytes)
@@ -118,7 +118,7 @@ start_at bytes = do
   horizon ← horizon_at format sender.1
   Ok (record { format = format; kind = kind; sender = sender.0; horizon = horizon.0 }, horizon.1)
 
--- the length, where it is valid for the kind, and what follows
+-- the length, if it is valid for the kind, and what follows
 unfoldable pub length_at : Format → Kind → List ℕ → Result (ℕ × List ℕ) FrameFault
 length_at format kind bytes = do
   len ← number_at w32 Truncated bytes
@@ -282,8 +282,7 @@ reserved_by bytes = do
 abbrev pub Reserves : Result ℕ FrameFault → Type 0
 Reserves reserved = (n : ℕ) × (0 < n) × (reserved ≡ Ok n)
 
--- A function returned what reading gives or, where it reserves capacity, that the allocation
--- failed.
+-- A function returned what reading gives or, if it reserves capacity, that the allocation failed.
 abbrev pub GivesReading : {X : Type 0} → Result X FrameFault → Result X FrameFault
     → Result ℕ FrameFault → Type 0
 GivesReading result read reserved = (result ≡ read) ⊎ ((result ≡ Err Memory) × Reserves reserved)

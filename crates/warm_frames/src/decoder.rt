@@ -67,7 +67,7 @@ fn size_with(held: &[u8], piece: &[u8]) -> Result<usize, FrameFault>
     frame_size(&header[..len + more])
 }
 
-// The size of the frame, where its header is complete with the piece. It may be known already.
+// The size of the frame, if its header is complete with the piece. It may be known already.
 fn size_of(held: &[u8], known: Option<usize>, piece: &[u8]) -> Result<Option<usize>, FrameFault>
     requires { KnowsSize held.now known }
     ensures { SaysSize held.now piece.now result }
@@ -96,7 +96,7 @@ fn hold(held: &mut Vec<u8>, piece: &[u8]) -> Result<(), FrameFault>
     Ok(())
 }
 
-// The answer to a piece that was consumed whole, where the frame is not complete yet.
+// The answer to a piece that was consumed whole, if the frame is not complete yet.
 fn all_of(piece: &[u8]) -> Fed
     ensures taken { result.taken ≡ length piece.now }
     ensures none { result.message ≡ None }
@@ -141,7 +141,7 @@ impl Decoder {
     }
 
     /// Consumes the bytes of the piece up to the end of the frame that has begun, and returns the
-    /// message that it encodes; or all bytes, where the frame isn't complete yet. The bytes not
+    /// message that it encodes; or all bytes, if the frame isn't complete yet. The bytes not
     /// consumed belong to the next frame: feed them again.
     ///
     /// Refused:

@@ -29,8 +29,8 @@ impl Model for EntryList {
 impl EntryList {
     /// The entries as a list that fits in a frame. Allocation-free.
     ///
-    /// They are given back where their pages don't ascend, each greater than the one before, or
-    /// where there are more than [`MAX_ENTRIES`].
+    /// They are given back if their pages don't ascend, each greater than the one before, or if
+    /// there are more than [`MAX_ENTRIES`].
     pub fn of(entries: Vec<Entry>) -> Result<EntryList, Vec<Entry>>
         ensures value { IfOk result (λ list. list ≡ entries.items) }
         ensures back { IfErr result (λ back. back ≡ entries) }

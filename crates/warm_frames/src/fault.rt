@@ -58,7 +58,7 @@ impl From<AllocError> for FrameFault {
     }
 }
 
-// The same, where the value that was not stored is returned: it is dropped.
+// The same, if the value that was not stored is returned: it is dropped.
 impl<T: Drop> From<AllocFailed<T>> for FrameFault {
     ghost use Rattle.std.specs.Prelude.{◌≡◌};
     ghost use Rattle.warm_frames.specs.declared.fault.FrameFault.TheVariants.{Memory};

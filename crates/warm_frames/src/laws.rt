@@ -20,7 +20,7 @@ pub fn in_pieces()
     ensures { InPieces }
 {}
 
-/// Where a decoder then finds a fault, the bytes up to it show it.
+/// If a decoder then finds a fault, the bytes up to it show it.
 pub fn fault_in_pieces()
     ensures { FaultInPieces }
 {}

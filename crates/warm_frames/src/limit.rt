@@ -73,7 +73,7 @@ fn are_by(entries: &[Entry], limit: u64) -> bool
 /// Nothing else refuses a time: [`decode`](crate::decode) and a node that receives the message
 /// believe each one. A message with a later horizon empties every history that takes it in, and no
 /// horizon is ever lowered again. A page with two stamps in the future is ranked above all pages in
-/// use until that time has come. So where a clock may be wrong or bytes may be changed, call this
+/// use until that time has come. So if a clock may be wrong or bytes may be changed, call this
 /// before the message is received, with the current time plus the most that clocks may differ.
 ///
 /// Refused:

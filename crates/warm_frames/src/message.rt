@@ -62,8 +62,8 @@ impl Message {
 /// A list of messages, in the order in which they are sent. Contracts see the list.
 pub type MessageList = Items<Message>;
 
-/// Encodes the message as a frame of the format `L2G2`. `AllocError` occurs only where the
-/// allocation of the bytes fails.
+/// Encodes the message as a frame of the format `L2G2`. `AllocError` occurs only if the allocation
+/// of the bytes fails.
 pub fn encode(alloc: Global, message: &Message) -> Result<Vec<u8>, AllocError>
     // The bytes written encode the message, so `decode` returns it.
     ensures encodes { IfOk result (λ bytes. Encodes bytes.items message.now) }
@@ -102,8 +102,8 @@ pub fn encode(alloc: Global, message: &Message) -> Result<Vec<u8>, AllocError>
 ///   and 27), digests 2048 and a request 8;
 /// - `Truncated`: fewer bytes follow than the length says, then `BadLength`: more;
 /// - `BadCount`: more entries than [`crate::MAX_ENTRIES`];
-/// - `Memory`: the allocation of the entries failed. There is one allocation, and only where there
-///   are entries;
+/// - `Memory`: the allocation of the entries failed. There is one allocation, and only if there are
+///   entries;
 /// - for each entry `BadLength`: fewer than 10 bytes for the page (6 in `L2G1`), `BadOrder`: a page
 ///   not greater than the one before, `BadLength`: no byte for the tag, `BadTag`: neither 1 nor 2,
 ///   `BadLength`: fewer than 10 or 20 bytes for the stamps, `BadStamp`: not a valid replica number,
@@ -138,7 +138,7 @@ impl Model for BoxedMessage {
 impl BoxedMessage {
     /// Puts the message into a box.
     ///
-    /// `AllocError` occurs only where the allocation of the box fails. The message is then dropped.
+    /// `AllocError` occurs only if the allocation of the box fails. The message is then dropped.
     pub fn new(alloc: Global, message: Message) -> Result<BoxedMessage, AllocError>
         ensures { IfOk result (λ boxed. boxed ≡ message) }
     {

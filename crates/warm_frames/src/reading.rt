@@ -101,7 +101,7 @@ fn may_have(format: Format, kind: Kind, len: usize) -> bool
     }
 }
 
-// The horizon, where the format has one.
+// The horizon, if the format has one.
 fn horizon_at(format: Format, bytes: &[u8]) -> Result<(u64, &[u8]), FrameFault>
     ensures { IsReading (λ x. (x.0, x.1.now)) result (horizon_at format bytes.now) }
 {
@@ -130,7 +130,7 @@ fn start_at(bytes: &[u8]) -> Result<(Format, Kind, ReplicaId, u64, &[u8]), Frame
     Ok((format, kind, sender, horizon, rest))
 }
 
-// The length, where it is valid for the kind, and what follows.
+// The length, if it is valid for the kind, and what follows.
 #[tactic(auto, unfolding(crate::specs::Reading::length_at))]
 fn length_at(format: Format, kind: Kind, bytes: &[u8]) -> Result<(u32, &[u8]), FrameFault>
     ensures { IsReading (λ x. (x.0, x.1.now)) result (length_at format kind bytes.now) }
@@ -158,13 +158,13 @@ fn body_at(format: Format, kind: Kind, bytes: &[u8]) -> Result<&[u8], FrameFault
     Ok(body)
 }
 
-/// The size of the frame that begins with these bytes, or `Truncated` where its header is
-/// incomplete, or the first fault of its header.
+/// The size of the frame that begins with these bytes, or `Truncated` if its header is incomplete,
+/// or the first fault of its header.
 #[tactic(auto, unfolding(crate::specs::Sizes::frame_size))]
 pub(crate) fn frame_size(bytes: &[u8]) -> Result<usize, FrameFault>
     ensures { result ≡ frame_size bytes.now }
 {
-    // Not `?`: the borrow checker has no rule for it where a tuple holds a `ReplicaId` and a
+    // Not `?`: the borrow checker has no rule for it if a tuple holds a `ReplicaId` and a
     // reference.
     let (format, kind, _, _, rest) = match start_at(bytes) {
         Ok(start) => start,

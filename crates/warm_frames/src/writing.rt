@@ -88,9 +88,9 @@ fn twice_bytes(page: PageId, last: Stamp, prev: Stamp) -> [u8; MAX_ENTRY_SIZE]
 /// Appends to the text the bytes of an entry, as they are in a frame and as they are digested: its
 /// page, a tag, which is the number of its stamps, and the stamps, the later one first.
 ///
-/// `AllocError` occurs only where their allocation fails, so never where the text has capacity for
-/// them. They are at most [`crate::MAX_ENTRY_SIZE`] bytes. The text is then unchanged. Its capacity
-/// never shrinks.
+/// `AllocError` occurs only if their allocation fails, so never if the text has capacity for them.
+/// They are at most [`crate::MAX_ENTRY_SIZE`] bytes. The text is then unchanged. Its capacity never
+/// shrinks.
 pub fn put_entry(text: &mut Vec<u8>, entry: &Entry) -> Result<(), AllocError>
     ensures items { OnOk result (text.new.items ≡ text.old.items ++ entry_bytes entry.now) }
     ensures err { OnErr result (text.new.items ≡ text.old.items) }

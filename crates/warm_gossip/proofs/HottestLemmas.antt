@@ -20,11 +20,11 @@ use Rattle.warm_rank.specs.Keys.{rank_key, key_cmp}
 use Rattle.warm_rank.specs.Ranking.{eviction_cmp, IsBefore, hottest_pages}
 use Rattle.warm_rank.proofs.KeyLemmas.{keys_order_pages}
 use Rattle.warm_rank.proofs.EvictionLemmas.{eviction_order}
-use Rattle.warm_rank.proofs.Outranked.{all_has, contains_has, has_contains, has_take}
+use Rattle.warm_rank.proofs.OutrankedLemmas.{all_has, contains_has, has_contains, has_take}
 
 -- ---- which pages a warm-up list has
 
--- where a rising list is cut, what comes before an item that is left is left
+-- if a rising list is cut, what comes before an item that is left is left too
 cut_closed : {A : Type 0} (cmp : A → A → Ordering) → IsStrictOrder cmp → (n : ℕ) (xs : List A)
     → IsAscending cmp xs → (x y : A) → Has (take n xs) x → Has xs y → cmp y x ≡ Less
     → Has (take n xs) y

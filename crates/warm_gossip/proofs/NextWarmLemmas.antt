@@ -66,7 +66,7 @@ page_to_load v h k keys at n p whole same under past loads there is =
     let loadable = loads there in
     (next_is v h ps _ p whole hottest (first_there v ps at past within loadable) (sym is), subst (IsLoadable v) (sym is) loadable)
 
--- Where no page of the list can be loaded, there is none to load next.
+-- If no page of the list can be loaded, there is none to load next.
 pub none_to_load : (v : PoolView) (h k : HistoryView) (keys : List RankKey) (at n : ℕ)
     → IsHistory h → k ≡ h → IsListed k v [] keys n → IsPast (map ranked_page keys) at v
     → length keys ≤ at

@@ -18,7 +18,7 @@ use Rattle.warm_rank.specs.Keys.{ranked_page}
 use Rattle.warm_rank.specs.Ranking.{IsBefore, eviction_cmp, hottest_pages}
 use Rattle.warm_rank.specs.Relisting.{AreHottest, RaisesOnly, WereHottest}
 use Rattle.warm_rank.proofs.EvictionLemmas.{eviction_is_order, eviction_order}
-use Rattle.warm_rank.proofs.Outranked.{all_has, contains_has}
+use Rattle.warm_rank.proofs.OutrankedLemmas.{all_has, contains_has}
 use Rattle.warm_rank.proofs.RaisedLemmas.{hottest_now, hottest_still, raises_both}
 use Rattle.warm_pool.specs.declared.slot.Placed.{Placed}
 use Rattle.warm_pool.specs.declared.slot.Slot.{Slot}
@@ -30,7 +30,7 @@ use Rattle.warm_gossip.specs.WarmingUp.{IsListed, IsNoneBefore, IsPast, IsWarmin
 use Rattle.warm_gossip.proofs.VictimLemmas.{frames_after}
 use Rattle.warm_gossip.proofs.WarmUpLemmas.{came_in, frames_count, has_same, resident_or_absent}
 
--- ---- where no page is evicted
+-- ---- if no page is evicted
 
 -- then the passed pages stay passed
 stay_passed : (h : HistoryView) (v w : PoolView) (p : PageId) (placed : Placed)
@@ -58,7 +58,7 @@ none_passed h v w changed keys m n count none under = record {
 
 -- ---- the list that is kept, if one is
 
--- what holds of these keys holds where they are kept
+-- what holds of these keys still holds if they are kept
 where_kept : (h : HistoryView) (v w : PoolView) (x : WarmUp) (n : ℕ)
     → ((keys : List RankKey) → IsListed h v x.changed.items keys x.passed
     → IsListed h w x.changed.items keys n)
@@ -153,7 +153,7 @@ leaves_later S n ps is j i before there =
     let rising : IsAscending falls (hottest_pages S n) = rising_take falls n (distinct falls (pages S)) (distinct_rises falls (IsStrictOrder-flip (eviction_cmp S) (eviction_order S)) (pages S)) in
     rises_at falls ps (record { dev = 0; no = 0 }) (subst (IsAscending falls) (sym is) rising) j i before there
 
--- a page that is loaded is passed too, where it evicted none of those before it
+-- a page that is loaded is passed too, if it evicted none of those before it
 pub loaded : {fixes : ℕ} (h : HistoryView) (v w : PoolView) (keys : List RankKey) (slot : Slot)
     (evicted : Option PageId) (at n : ℕ) → IsHistory h → at < length keys → IsListed h v [] keys at
     → PutsIn h v (nth_page (map ranked_page keys) at) fixes slot w

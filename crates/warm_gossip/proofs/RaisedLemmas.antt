@@ -1,5 +1,5 @@
--- What a history says of pages as before: of those of which it takes in no reference, where its
--- horizon does not rise; and of all, where its entries stay. No page falls.
+-- What a history says as before: of a page to which it takes in no reference, if its horizon does
+-- not rise; of all pages, if its entries stay. No page falls.
 use Rattle.std.proofs.Common.{◌≡◌, ℕ, ◌≤◌, List, [], ◌∷◌, map, filter, Option, Some, None, IfSome, inl, inr, sym, subst, ap, ◌∙◌, arith}
 use Rattle.std.proofs.lemmas.List.{map-append}
 use Rattle.std.specs.Option.{option_map}
@@ -18,7 +18,7 @@ use Rattle.warm_history.specs.Histories.{HistoryView, IsHistory, history_of_entr
 use Rattle.warm_history.proofs.HistoryLemmas.{hist_refs-history, references-refs}
 use Rattle.warm_rank.specs.Keys.{rank_key}
 use Rattle.warm_rank.specs.Relisting.{RaisesOnly}
-use Rattle.warm_rank.proofs.Outranked.{contains_has, has_contains, has_either}
+use Rattle.warm_rank.proofs.OutrankedLemmas.{contains_has, has_contains, has_either}
 use Rattle.warm_rank.proofs.RaisedLemmas.{raises_alike, raises_more, taking_in_raises}
 use Rattle.warm_frame_table.specs.Frames.{nth_frame}
 use Rattle.warm_pool.specs.Refreshing.{AgreeOutside}

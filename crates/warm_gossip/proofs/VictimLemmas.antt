@@ -54,7 +54,7 @@ KeepsNode old new = (new ≡ record old { pool = new.pool }) × KeepsPages old.p
 pub none_changed : (old new : NodeView) → new ≡ old → KeepsNode old new
 none_changed old new same = subst (KeepsNode old) (sym same) (refl, λ i. refl)
 
--- where the pin count of one frame changes
+-- if the pin count of one frame changes
 pub fixes_change : (v w : PoolView) (k n : ℕ) → k < length v.frames
     → w.frames ≡ set v.frames k (record (frame_at v k) { fixes = n }) → KeepsPages v w
 fixes_change v w k n there becomes i =
@@ -117,7 +117,7 @@ pinned h v w p slot (inl adds) = inl (fixes_change v w slot.index _ adds.there (
 pinned h v w p slot (inr puts) = inr (p, 1, slot, puts)
 
 -- the history is that of S, and any call but a restart has put one page into a frame, or left all
--- where they were
+-- pages in their frames
 abbrev pub Leads : ReferenceSet → Call → NodeView → NodeView → Type 0
 Leads S call old new = (new.history ≡ history S) × (call ≢ Restart → KeepsPages old.pool new.pool ⊎ PutsPage old.history old.pool new.pool)
 

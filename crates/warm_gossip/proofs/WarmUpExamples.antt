@@ -11,7 +11,7 @@ use Rattle.warm_rank.specs.Ranking.{eviction_cmp, IsBefore, IsVictim, hottest_pa
 use Rattle.warm_pool.specs.View.{PoolView, FrameView, DeviceView, device_at, contents_at, frame_at, is_page, IsAbsent}
 use Rattle.warm_pool.specs.Unchanged.{KeepsContents}
 use Rattle.warm_pool.specs.Pinning.{HasNoFreeFrame, PutsIn}
-use Rattle.warm_pool.proofs.Bytes.{found_page}
+use Rattle.warm_pool.proofs.PageByteLemmas.{found_page}
 use Rattle.warm_gossip.specs.declared.call.Call.TheVariants.{WarmStep}
 use Rattle.warm_gossip.specs.declared.call.Reply.TheVariants.{Loaded}
 use Rattle.warm_gossip.specs.State.{NodeView}

@@ -21,13 +21,13 @@ use Rattle.warm_history.specs.Histories.{HistoryView, StandsFor, pages}
 use Rattle.warm_rank.specs.Laws.{pages_in}
 use Rattle.warm_rank.specs.Ranking.{IsVictim, eviction_cmp, hottest_pages}
 use Rattle.warm_rank.proofs.EvictionLemmas.{truncation_keeps_order}
-use Rattle.warm_rank.proofs.Outranked.{has_contains}
+use Rattle.warm_rank.proofs.OutrankedLemmas.{has_contains}
 use Rattle.warm_rank.proofs.RaisedLemmas.{differs}
 use Rattle.warm_pool.specs.declared.slot.Slot.{Slot}
 use Rattle.warm_pool.specs.State.{PoolState, IsPool}
 use Rattle.warm_pool.specs.View.{PoolView, FrameView, frame_at, is_page, HasPage, IsResident, IsAbsent, IsUnfixed, unfixed_page, unfixed_pages, view_of}
 use Rattle.warm_pool.specs.Pinning.{HasNoFreeFrame, PutsIn}
-use Rattle.warm_pool.proofs.Bytes.{page_found, found_page, frame_seen}
+use Rattle.warm_pool.proofs.PageByteLemmas.{page_found, found_page, frame_seen}
 use Rattle.warm_gossip.specs.declared.call.Call.TheVariants.{WarmStep}
 use Rattle.warm_gossip.specs.declared.call.Reply.TheVariants.{Loaded, Refused}
 use Rattle.warm_gossip.specs.State.{NodeView}
@@ -62,7 +62,7 @@ resident_or_absent v p = elim (go v.frames) [ inl (k, lt, is) ↦ inl (record { 
       | inr away ↦ elim (go fs) [ inl (k, lt, is) ↦ inl (suc k, omega (arith, lt), is) | inr none ↦ inr (first f fs away none) ]
     ]
 
--- where no page is pinned, the page of each frame is unpinned
+-- if no page is pinned, the page of each frame is unpinned
 unfixed_has : (fs : List FrameView) → ((i : ℕ) → (get_or fs i no_frame).fixes ≡ 0)
     → (i : ℕ) (p : PageId) → (get_or fs i no_frame).page ≡ Some p
     → Has (pages_in (map unfixed_page fs)) p
@@ -79,7 +79,7 @@ has_same v w p same has = record { device = rw same has.device; number = rw same
 same_page : (p q : PageId) → Decides (eq_by_cmp page_cmp p q) (p ≡ q)
 same_page p q = (λ tied. page_order.same p q (is_equal (page_cmp p q) tied), λ is. ap (λ x. is_eq (page_cmp p x)) (sym is) ∙ ap is_eq (tied_itself page_order.total p))
 
--- Where every frame has a page and each page is in one frame, no list of as many pages as there are
+-- If every frame has a page and each page is in one frame, no list of as many pages as there are
 -- frames has all of these and one more.
 crowded : (v : PoolView) → PagesDiffer v → HasNoFreeFrame v → (q : PageId) → IsAbsent v q
     → (ps : List PageId) → length ps ≤ length v.frames → Contains ps q
@@ -126,7 +126,7 @@ record IsWarming (S : ReferenceSet) (n : ℕ) (s : NodeView) : Type 0 where
 few_listed : (S : ReferenceSet) (n : ℕ) → length (hottest_pages S n) ≤ n
 few_listed S n = omega (arith, length-take n (distinct (flip_args (eviction_cmp S)) (pages S)))
 
--- the page r is in the list, where the page p of the list leaves and r does not leave before it
+-- if p, the victim among the pages U, is in the list, so is each page r of U
 victim_last : (S : ReferenceSet) (n : ℕ) (U : List PageId) (p : PageId) → IsVictim S U (Some p)
     → Contains (hottest_pages S n) p → (r : PageId) → Contains U r → Contains (hottest_pages S n) r
 victim_last S n U p victim listed r has = elim (held_or_not p (Some r)) [
@@ -134,9 +134,9 @@ victim_last S n U p victim listed r has = elim (held_or_not p (Some r)) [
   | inr other ↦ after_listed S n p r listed (victim.1 r has (λ is. other (ap Some is)))
 ]
 
--- While no page is pinned, a page of the list stays in its frame where another page of the list is
--- loaded: if it left, it was the victim, so that all resident pages are in the list, and the other
--- too, which are too many.
+-- While no page is pinned, a page of the list stays in its frame when another page of the list is
+-- loaded. If it left, it was the victim. So all resident pages are in the list, and the other page
+-- too: more than the list has.
 stays : (S : ReferenceSet) (n : ℕ) (s : NodeView) {w : PoolView} {q : PageId} {slot : Slot}
     → IsWarming S n s → PutsIn s.history s.pool q 0 slot w → Contains (hottest_pages S n) q
     → (p : PageId) → Contains (hottest_pages S n) p → (i : ℕ) → (frame_at s.pool i).page ≡ Some p

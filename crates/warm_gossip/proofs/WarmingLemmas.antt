@@ -1,4 +1,4 @@
--- What is kept of a warm-up where the pool changes otherwise than by a pin or a load.
+-- What is kept of a warm-up when the pool changes by another call than a pin or a load.
 use Rattle.std.proofs.Common.{◌≡◌, ℕ, List, length, map, Some, None, IfSome, ap, sym, subst, ◌∙◌, arith}
 use Rattle.std.specs.Prelude.{slice_index_or}
 use Rattle.std.proofs.lemmas.List.{length-map}
@@ -24,7 +24,7 @@ warms_again h v w x count under = elim x.list as (λ o. IfSome o (λ keys. IsLis
   | Some keys ↦ λ u. record { hottest = subst (λ k. WereHottest h k x.changed.items keys) (sym count) u.hottest; past = λ j before. absurd (omega (arith, before)) }
 ] under
 
--- the passed pages stay passed where devices and frames stay, whatever the contents
+-- the passed pages stay passed if devices and frames stay, whatever the contents
 pub warms_on : (h : HistoryView) (v w : PoolView) (x : WarmUp) → w.devices ≡ v.devices
     → w.frames ≡ v.frames → IsWarming h v x → IsWarming h w x
 warms_on h v w x devices frames under =
@@ -40,7 +40,7 @@ warms_on h v w x devices frames under =
       }
     ] under
 
--- so where a call of a device failed, and nothing else has changed
+-- the same if a call of a device failed, and nothing else has changed
 pub warms_failed : (h : HistoryView) (v w : PoolView) (x : WarmUp) (k : ℕ) → FailsAt v k w
     → IsWarming h v x → IsWarming h w x
 warms_failed h v w x k fails = warms_on h v w x (ap (λ y. y.devices) fails.becomes) (ap (λ y. y.frames) fails.becomes)

@@ -44,7 +44,7 @@ IsLoadable v p = HasPage v p × IsAbsent v p
 abbrev pub nth_page : List PageId → ℕ → PageId
 nth_page pages i = slice_index_or pages i (record { dev = 0; no = 0 })
 
--- the first of these pages that could be loaded, or none where none could
+-- the first of these pages that could be loaded, or none if none could
 abbrev pub IsFirstLoadable : PoolView → List PageId → Option PageId → Type 0
 IsFirstLoadable v pages None = (j : ℕ) → j < length pages → IsLoadable v (nth_page pages j) → ⊥
 IsFirstLoadable v pages (Some p) = (i : ℕ) × (i < length pages) × (nth_page pages i ≡ p)
@@ -69,8 +69,8 @@ IsStale old slot new = (Holds old.pool slot → ⊥) × (new ≡ old)
 abbrev pub IsBeyond : NodeView → Slot → ℕ → ℕ → NodeView → Type 0
 IsBeyond old slot at len new = Holds old.pool slot × (IsWithinPage old at len → ⊥) × (new ≡ old)
 
--- Why a call is refused, and what has then changed. A call allocates only where this names Memory
--- for it.
+-- Why a call is refused, and what has then changed. A call allocates only if this names Memory for
+-- it.
 abbrev pub Refuses : NodeView → Call → NodeFault → NodeView → Type 0
 Refuses old (Absorb batch) Memory new = new ≡ old
 Refuses old (Send bucket after) Memory new = new ≡ old

@@ -43,13 +43,13 @@ abbrev pub StepsLoad : ReferenceSet → NodeView → NodeView → Type 0
 StepsLoad S old new = WarmSteps (length old.pool.frames) old new → (p : PageId) → IsHot S old.pool p
     → IsResident new.pool p
 
--- where no page is pinned and none is in two frames, all of the hottest pages that the devices have
+-- if no page is pinned and none is in two frames, all of the hottest pages that the devices have
 -- are resident after as many steps as there are frames
 abbrev pub NodeWarmUpLoads : Type 0
 NodeWarmUpLoads = (S : ReferenceSet) (old new : NodeView) → StandsFor old.history S
     → PagesDiffer old.pool → IsUnfixed old.pool → StepsLoad S old new
 
--- where no page of this node is pinned, all of the hottest pages that its devices have are resident
+-- if no page of this node is pinned, all of the hottest pages that its devices have are resident
 -- after as many steps as it has frames, whichever references its history stands for
 abbrev pub NodeWarmsUp : NodeView → Type 0
 NodeWarmsUp old = (S : ReferenceSet) (new : NodeView) → StandsFor old.history S → IsUnfixed old.pool

@@ -23,8 +23,8 @@ pub record IsListed (h : HistoryView) (v : PoolView) (changed : List PageId) (ke
   pub hottest : WereHottest h (length v.frames) changed keys
   pub past : IsPast (map ranked_page keys) passed v
 
--- where a list is kept, its keys were those of the hottest pages, and since then only the pages
--- noted as changed rose; its first `passed` pages are passed
+-- if a list is kept, its keys were those of the hottest pages, and since then only the pages noted
+-- as changed rose; its first `passed` pages are passed
 abbrev pub IsWarming : HistoryView → PoolView → WarmUp → Type 0
 IsWarming h v warm_up =
     IfSome warm_up.list (λ keys. IsListed h v warm_up.changed.items keys warm_up.passed)

@@ -25,9 +25,9 @@ use warm_pool::Pool;
 use warm_rank::warm_list;
 use warm_stamps::{Bucket, PageId, PageList, Reference};
 
-// Where any entries of a node's history may have changed: the warm-up list, which is of the entries
-// before, is dropped, and all resident pages are ranked again. The node is not whole until then, so
-// this is a function of its parts.
+// After any entries of a node's history may have changed: drops the warm-up list, which is of the
+// entries before, and ranks all resident pages again. The node is not whole until then, so this is
+// a function of its parts.
 fn entries_changed<D: PageDevice>(
     alloc: Global,
     history: &History,

@@ -70,7 +70,7 @@ impl WarmUp {
     }
 }
 
-// Whether so many more pages may be noted.
+// Whether this many more pages may be noted.
 fn has_room(changed: &[PageId], more: usize) -> bool {
     more <= MAX_CHANGED && changed.len() <= MAX_CHANGED - more
 }
@@ -91,10 +91,10 @@ impl<D: PageDevice> Node<D> {
     /// `WarmStep`. A standby calls it until it returns `None`, before the standby takes over.
     ///
     /// The list of these pages is made at the first step, at the cost of [`Node::warm_list`], and
-    /// cached. A step that finds it current is allocation-free, and looks up pages from where the
-    /// last step stopped until it finds one to load. So a whole warm-up looks up each page once,
-    /// provided that no passed page is evicted: after a pin that evicts a page, or a step that
-    /// evicts a page of the list, the next step begins with the hottest page again.
+    /// cached. A step that finds it current is allocation-free, and looks up pages from the page at
+    /// which the last step stopped until it finds one to load. So a whole warm-up looks up each
+    /// page once, provided that no passed page is evicted: after a pin that evicts a page, or a
+    /// step that evicts a page of the list, the next step begins with the hottest page again.
     ///
     /// After references came, the next step ranks the pages that they name, and merges these into
     /// the list ([`HotPages::relisted`]): it does not read the rest of the history. It begins with
@@ -214,7 +214,7 @@ fn new_list(
 }
 
 // The index of the first page that could be loaded, from an index before which none could; the
-// number of pages where none could.
+// number of pages if none could.
 fn first_loadable<D: PageDevice>(pool: &Pool<D>, list: &HotPages, passed: usize) -> usize
     requires { IsPast (map ranked_page list.now) passed (view_of pool.now) }
     ensures past { IsPast (map ranked_page list.now) result (view_of pool.now) }
@@ -288,7 +288,7 @@ pub(crate) fn passed_at_fill(
     }
 }
 
-// The same of a pin that evicted a page, where a list is kept, of which `at` pages are passed.
+// The same of a pin that evicted a page, if a list is kept. Its first `at` pages are passed.
 fn passed_at_next(
     history: &History,
     list: &HotPages,

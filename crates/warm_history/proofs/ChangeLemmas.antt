@@ -100,7 +100,7 @@ grows_more h mid new S whole_h whole_mid grows is p =
 between : (x y : Option PageHist) → joined x y ≡ y → joined y x ≡ x → y ≡ x
 between x y up down = sym up ∙ latest_of_swap (known_stamps x) (known_stamps y) ∙ down
 
--- where a bucket is unchanged in the end, it was unchanged at each step
+-- if a bucket is unchanged in the end, it was unchanged at each step
 stays_between : (bucket : ℕ) (h mid new : List Entry) → PagesAscend h → PagesAscend mid
     → Grows h mid → Grows mid new → SameInBucket bucket h new → SameInBucket bucket h mid
 stays_between bucket h mid new rise_h rise_mid up down same = same_bucket bucket mid h rise_mid rise_h (λ p there.
@@ -178,7 +178,7 @@ in_it i = with_same 0 i
 pub not_in_it : (i b : ℕ) → b ≢ i → bit_at (bit_or 0 (2 ^ i)) b ≡ 0
 not_in_it i b other = with_other 0 i b other ∙ bit_at-zero b
 
--- where something else is found at a key, the bucket changes in which it lies
+-- if something else is found at a key, the bucket in which the key lies changes
 pub changes_at : (old new : MapPairs) (key : ℕ) → IsMapKey key → AreKept old → AreKept new
     → found key new ≢ found key old
     → bucket_entries (page_bucket (page_of_key key)) (kept new)
@@ -230,7 +230,7 @@ takes_more m p more first old new before next are_first are_old takes grows mark
 
 -- ---- what is taken in, and then cut
 
--- where a cut leaves a bucket as it is, nothing in it says less of its pages
+-- if a cut leaves a bucket as it is, nothing in it says less of its pages
 hist_left : (m bucket : ℕ) (es : List Entry) (p : PageId) → IsListHistory es
     → page_bucket p ≡ bucket → kept_entries m (bucket_entries bucket es) ≡ bucket_entries bucket es
     → list_hist (references_from m (list_references_of es)) p ≡ list_hist (list_references_of es) p

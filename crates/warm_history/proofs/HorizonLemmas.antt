@@ -85,7 +85,7 @@ left_past h time bucket whole le =
     let past : max h.horizon time ≡ time = omega arith in
     ap (λ m. kept_entries m (bucket_entries bucket (entries_of h))) (sym past) ∙ raised_bucket h time bucket whole
 
--- it keeps all where it has no older stamp, and else loses something
+-- it keeps everything if it has no older stamp, and otherwise loses something
 pub keeps_recent : (h : HistoryView) (time bucket : ℕ) → IsHistory h → h.horizon ≤ time
     → NoneOlder time (bucket_entries bucket (entries_of h)) → KeepsIn time bucket h
 keeps_recent h time bucket whole le none = sym (left_past h time bucket whole le) ∙ entries_recent time _ none

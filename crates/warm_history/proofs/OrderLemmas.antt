@@ -23,7 +23,7 @@ both_same p q r first second =
     let there : q ≡ r = page_order.same q r (is_equal (page_cmp q r) second) in
     ap (page_cmp p) (there ∙ sym here) ∙ tied_itself page_order.total p
 
--- what two entries, in either order, hold of a page, where they aren't of one page
+-- what two entries of different pages, in either order, hold of a page
 pub either_first : {A : Type 0} (a b : Bool) (x y z : A) → (a ≡ true → b ≡ true → x ≡ y)
     → cond a x (cond b y z) ≡ cond b y (cond a x z)
 either_first true true x y z same = same refl refl
@@ -117,7 +117,7 @@ abbrev pub PagesDiffer : List Entry → Type 0
 PagesDiffer [] = Unit {0}
 PagesDiffer (e ∷ es) = (get es e.page ≡ None) × PagesDiffer es
 
--- page order changes the positions of entries alone, where no two are of one page
+-- page order changes only the positions of entries, if no two are of one page
 pub permuted_in_order : (es : List Entry) → PagesDiffer es → IsPermutation es (in_page_order es)
 permuted_in_order [] differ = IsPermutation-refl []
 permuted_in_order (e ∷ es) differ = IsPermutation-trans (e ∷ es) (e ∷ in_page_order es) (put_in e (in_page_order es))

@@ -91,7 +91,7 @@ of_entry r (f ∷ es) e has here = elim (Contains-append_cases (f ∷ []) es e h
   | inr later ↦ in_second r (references_of_entry f) (list_references_of es) (of_entry r es e later here)
 ]
 
--- where the latest stamp of an entry is before a time, all its stamps are
+-- if the latest stamp of an entry is before a time, all its stamps are
 all_before : (m : ℕ) (r : Reference) (p : PageId) (h : PageHist) → IsDescending h
     → is_recent m h ≡ false → IsIn r (references_of_entry (record { page = p; hist = h }))
     → is_kept m r.stamp ≡ false

@@ -89,7 +89,7 @@ taken_all n taken ahead left all is none over few =
     let whole : taken ≡ all = sym (append-nil taken) ∙ ap (λ (l : List Entry). taken ++ l) (sym none) ∙ is in
     (sym (ap (take n) (sym whole) ∙ take_all n taken few), over ∙ sym (ap (drop n) (sym whole) ∙ drop_all n taken few))
 
--- some are left where there are more than are wanted
+-- some are left if there are more than are wanted
 pub left_more : (n : ℕ) (all left : List Entry) (b : Bool) → (IsTrue b ↔ 0 < length left)
     → left ≡ drop n all → IsTrue b ↔ n < length all
 left_more n all left b is rest =

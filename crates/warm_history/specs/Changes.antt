@@ -13,13 +13,13 @@ ChangesIn bucket old new = bucket_entries bucket new ≢ bucket_entries bucket o
 abbrev pub SameInBucket : ℕ → List Entry → List Entry → Type 0
 SameInBucket bucket old new = bucket_entries bucket new ≡ bucket_entries bucket old
 
--- the bit of a bucket is 1 only where its entries changed from the old list to the new one, and 0
--- only where they are the same
+-- the bit of a bucket is 1 only if its entries changed from the old list to the new one, and 0 only
+-- if they are the same
 abbrev pub SaysChange : List Entry → List Entry → ℕ → ℕ → Type 0
 SaysChange old new bucket bit = (bit ≡ 1 → ChangesIn bucket old new)
     × (bit ≡ 0 → SameInBucket bucket old new)
 
--- a bucket is in the set exactly where its entries change
+-- a bucket is in the set exactly if its entries change
 abbrev pub MarksChanged : List Entry → List Entry → ℕ → Type 0
 MarksChanged old new buckets = (bucket : ℕ) → bucket < BUCKETS
     → SaysChange old new bucket (bit_at buckets bucket)

@@ -48,7 +48,7 @@ hist S p = first_two (stamps S p)
 abbrev pub pages : ReferenceSet → List PageId
 pages S = distinct page_cmp (map (λ r. r.page) (references S))
 
--- the page p with its two latest stamps, where S names it
+-- the page p with its two latest stamps, if S names it
 abbrev pub entry_of : ReferenceSet → PageId → Option Entry
 entry_of S p = option_map (λ h. record { page = p; hist = h }) (hist S p)
 

@@ -10,12 +10,12 @@ abbrev pub is_recent : ℕ → PageHist → Bool
 is_recent horizon (Once last) = is_kept horizon last
 is_recent horizon (Twice two) = is_kept horizon two.last
 
--- a page's stamps without the second latest, where that is older than the horizon
+-- a page's stamps without the second latest, if that is older than the horizon
 abbrev pub shortened : ℕ → PageHist → PageHist
 shortened horizon (Once last) = Once last
 shortened horizon (Twice two) = cond (is_kept horizon two.prev) (Twice two) (Once two.last)
 
--- the entry without the second latest stamp, where that is older than the horizon
+-- the entry without the second latest stamp, if that is older than the horizon
 abbrev pub shortened_entry : ℕ → Entry → Entry
 shortened_entry horizon e = record { page = e.page; hist = shortened horizon e.hist }
 

@@ -40,7 +40,7 @@ list_hist S p = first_two (list_stamps S p)
 abbrev pub list_pages : List Reference → List PageId
 list_pages S = distinct page_cmp (map (λ r. r.page) S)
 
--- the page p with its two latest stamps, where S names it
+-- the page p with its two latest stamps, if S names it
 abbrev pub list_entry_of : List Reference → PageId → Option Entry
 list_entry_of S p = option_map (λ h. record { page = p; hist = h }) (list_hist S p)
 
@@ -53,7 +53,7 @@ abbrev pub hist_stamps : PageHist → List Stamp
 hist_stamps (Once last) = last ∷ []
 hist_stamps (Twice two) = two.last ∷ two.prev ∷ []
 
--- the stamps held of a page, none where it has no history
+-- the stamps held of a page, none if it has no history
 abbrev pub known_stamps : Option PageHist → List Stamp
 known_stamps None = []
 known_stamps (Some h) = hist_stamps h

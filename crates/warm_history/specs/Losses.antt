@@ -6,7 +6,7 @@ use Rattle.warm_history.specs.Changes.{ChangesIn, SameInBucket, MarksChanged}
 use Rattle.warm_history.specs.Histories.{HistoryView, entries_of, history, references_of}
 use Rattle.warm_history.specs.ReferenceSets.{with_horizon}
 
--- the history raised to the horizon, or unchanged where its own is not less
+-- the history raised to the horizon, or unchanged if its own is not less
 abbrev pub raised : ℕ → HistoryView → HistoryView
 raised horizon h = history (with_horizon horizon (references_of h))
 
@@ -22,7 +22,7 @@ LosesIn horizon bucket h = ChangesIn bucket (entries_of h) (entries_of (raised h
 abbrev pub KeepsIn : ℕ → ℕ → HistoryView → Type 0
 KeepsIn horizon bucket h = SameInBucket bucket (entries_of h) (entries_of (raised horizon h))
 
--- a bucket is in the set exactly where its entries would change if the history were raised to the
+-- a bucket is in the set exactly if its entries would change if the history were raised to the
 -- horizon
 abbrev pub MarksLosing : ℕ → HistoryView → ℕ → Type 0
 MarksLosing horizon h buckets = MarksChanged (entries_of h) (entries_of (raised horizon h)) buckets

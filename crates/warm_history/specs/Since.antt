@@ -18,7 +18,7 @@ use Rattle.warm_history.specs.References.{IsIn}
 
 -- Over references
 
--- the latest stamp of a page, where it has one, is not before the time
+-- the latest stamp of a page, if it has one, is not before the time
 abbrev pub is_since : ℕ → Option PageHist → Bool
 is_since since None = false
 is_since since (Some h) = is_recent since h

@@ -1,5 +1,5 @@
-//! What a cut at a horizon leaves of a history: the entries of a bucket, where older stamps are
-//! skipped as they are read, and the buckets that it would change. The history is unchanged.
+//! What a cut at a horizon would leave of a history: the entries of a bucket, whose older stamps
+//! are skipped as they are read; and the buckets that it would change. The history is unchanged.
 ghost use Rattle.std.specs.Prelude.{◌≡◌, ◌↔◌, IfOk, IsTrue};
 ghost use Rattle.std.specs.Iterator.{YieldsFirst};
 ghost use Rattle.warm_history.specs.Histories.{NoneOlder, entries_of};

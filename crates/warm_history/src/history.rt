@@ -31,7 +31,7 @@ use warm_stamps::{Bucket, BucketSet, PageId, Reference};
 ///
 /// The entries of a bucket lie together, so an operation on a bucket costs only that bucket's size.
 ///
-/// Calls that add are all or nothing: where an allocation fails, the history is unchanged.
+/// Calls that add are all or nothing: if an allocation fails, the history is unchanged.
 /// `AllocError` also refuses the page by which a bucket would have 2^57 pages of devices below 64,
 /// or as many of others: more than fit into any memory.
 #[derive(Debug)]
@@ -89,7 +89,7 @@ impl History {
 
     /// Forgets all stamps before this time, unless the horizon is already later. Allocation-free.
     ///
-    /// Where the time is later than the horizon, all entries are scanned once.
+    /// If the time is later than the horizon, all entries are scanned once.
     pub fn raise(&mut self, time: u64)
         ensures raised { (S : ReferenceSet) → StandsFor self.old S
             → StandsFor self.new (with_horizon time S) }
@@ -113,7 +113,7 @@ impl History {
         self.len() == 0
     }
 
-    /// The entry of index `i` in page order, counted from 0, where there is one. Allocation-free.
+    /// The entry of index `i` in page order, counted from 0, if there is one. Allocation-free.
     ///
     /// It steps over the `i` entries before it, as [`History::iter`] does: to visit all entries,
     /// use that.
@@ -126,8 +126,8 @@ impl History {
     /// The entries, in rising page order. Allocation-free.
     ///
     /// Starting costs a look-up in each of the 64 buckets, and each entry then costs six page
-    /// compares and a step within its bucket: where the order doesn't matter,
-    /// [`History::unordered`] is faster.
+    /// compares and a step within its bucket: if the order doesn't matter, [`History::unordered`]
+    /// is faster.
     pub fn iter(&self) -> Entries<'_>
         ensures { result ≡ entries_of self.now }
     {
@@ -159,8 +159,8 @@ impl History {
 
     /// The entries that [`History::bucket_at_horizon`] gives, as a list.
     ///
-    /// It costs a step for each entry of the bucket. `AllocError` occurs where their allocation
-    /// fails: room for all entries of the bucket is allocated at once.
+    /// It costs a step for each entry of the bucket. `AllocError` occurs if their allocation fails:
+    /// room for all entries of the bucket is allocated at once.
     pub fn list_at_horizon(&self, bucket: Bucket, horizon: u64) -> Result<Vec<Entry>, AllocError>
         ensures { IfOk result (λ es. es.items ≡ bucket_at_horizon horizon bucket self.now) }
     {
@@ -171,7 +171,7 @@ impl History {
     /// Whether the entries of a bucket would change at a horizon: one of them has an older stamp.
     /// Allocation-free.
     ///
-    /// It costs nothing where the horizon is not greater than the history's own; otherwise it reads
+    /// It costs nothing if the horizon is not greater than the history's own; otherwise it reads
     /// the bucket up to its first older stamp.
     pub fn loses(&self, bucket: Bucket, horizon: u64) -> bool
         ensures loses { IsTrue result → LosesIn horizon bucket self.now }
@@ -204,7 +204,7 @@ impl History {
         }
     }
 
-    /// The two latest stamps of a page, where it was referenced. Allocation-free.
+    /// The two latest stamps of a page, if it was referenced. Allocation-free.
     pub fn get(&self, page: PageId) -> Option<PageHist>
         ensures { (S : ReferenceSet) → StandsFor self.now S → result ≡ hist S page }
     {
@@ -215,8 +215,8 @@ impl History {
     /// buckets whose entries changed.
     ///
     /// Time grows with the batch, and with the logarithm of the number of pages. `AllocError`
-    /// occurs where the allocation of a new page fails or, in a batch of two references or more,
-    /// that of the undo list (the old values of the batch's pages), and changes nothing.
+    /// occurs if the allocation of a new page fails or, in a batch of two references or more, that
+    /// of the undo list (the old values of the batch's pages), and changes nothing.
     pub fn absorb(&mut self, batch: &[Reference]) -> Result<BucketSet, AllocError>
         ensures ok { OnOk result (TakesIn self.old (set_of_list batch.now) self.new) }
         ensures exact { OnOk result
@@ -235,8 +235,8 @@ impl History {
     ///
     /// If all pages of the other history are of devices below 64, each of its buckets and this
     /// history's are read in one walk. Otherwise each of its pages is looked up in this one.
-    /// `AllocError` occurs where the allocation of the undo list (what was known of these pages) or
-    /// of a new page fails, and changes nothing.
+    /// `AllocError` occurs if the allocation of the undo list (what was known of these pages) or of
+    /// a new page fails, and changes nothing.
     pub fn join(&mut self, other: &History) -> Result<BucketSet, AllocError>
         ensures ok { OnOk result (TakesIn self.old (references_of other.now) self.new) }
         ensures exact { OnOk result (self.new ≡ join self.old other.now) }
@@ -258,9 +258,9 @@ impl History {
     ///
     /// The entries are scanned once, and each page is looked up in this history. Four or more
     /// entries of one bucket, with rising pages of devices below 64, are not looked up: they and
-    /// the bucket's entries are read in one walk. `AllocError` occurs where the allocation of the
-    /// undo list (the old values of these pages), of a list of entries that are new or change, or
-    /// of a new page fails, and changes nothing.
+    /// the bucket's entries are read in one walk. `AllocError` occurs if the allocation of the undo
+    /// list (the old values of these pages), of a list of entries that are new or change, or of a
+    /// new page fails, and changes nothing.
     pub fn join_entries(&mut self, horizon: u64, more: &[Entry]) -> Result<BucketSet, AllocError>
         ensures ok { OnOk result
             (TakesIn self.old (references_of (history_of_entries_at horizon more.now)) self.new) }
@@ -278,7 +278,7 @@ impl History {
         Ok(changed.union(lost))
     }
 
-    /// A second history, equal to this one. `AllocError` occurs where its allocation fails.
+    /// A second history, equal to this one. `AllocError` occurs if its allocation fails.
     pub fn copy(&self) -> Result<History, AllocError>
         ensures { IfOk result (λ copied. copied ≡ self.now) }
     {
@@ -291,11 +291,11 @@ impl History {
     }
 
     /// The first `limit` entries, in page order, of those in the bucket whose page is greater than
-    /// `after`; of all in the bucket, where `after` is `None`. They are a history themselves: their
+    /// `after`; of all in the bucket, if `after` is `None`. They are a history themselves: their
     /// pages rise, and the stamps of each page fall. The page `after` may be of any bucket.
     ///
     /// It costs a look-up, and a step for each entry that is returned: no other entry is read.
-    /// `AllocError` occurs where their allocation fails.
+    /// `AllocError` occurs if their allocation fails.
     pub fn entries(
         &self,
         bucket: Bucket,
@@ -311,16 +311,16 @@ impl History {
 
     /// The first `limit` entries, in page order, of those in the bucket whose page is greater than
     /// `after`, and whose latest stamp is not before the time `since`; of all such in the bucket,
-    /// where `after` is `None`. The portion also says whether more of these follow: then they are
-    /// the entries since this time after the page of the portion's last entry. The entries are a
-    /// history themselves, each with its second latest stamp, also where that is before `since`.
+    /// if `after` is `None`. The portion also says whether more of these follow: then they are the
+    /// entries since this time after the page of the portion's last entry. The entries are a
+    /// history themselves, each with its second latest stamp, even if that is before `since`.
     ///
     /// Whoever has all references from before a time, and takes in what every bucket has since
     /// then, has all: see [`crate::laws::since_brings_all`]. So a replica that publishes its
     /// history again and again, with nobody to answer, sends of each bucket what is new.
     ///
     /// It costs a look-up, and a step for each entry of the bucket from there on, up to the first
-    /// such entry beyond the limit. `AllocError` occurs where their allocation fails.
+    /// such entry beyond the limit. `AllocError` occurs if their allocation fails.
     pub fn entries_since(
         &self,
         bucket: Bucket,
@@ -341,7 +341,7 @@ impl History {
         portion_since(self.alloc, self.later(bucket, after), since, limit)
     }
 
-    // The entries of a bucket whose page is greater than the given one, where one is given.
+    // The entries of a bucket whose page is greater than the given one, if one is given.
     fn later(&self, bucket: Bucket, after: Option<PageId>) -> BucketEntries<'_>
         ensures { result ≡ later_of_bucket bucket after (entries_of self.now) }
     {

@@ -3,7 +3,7 @@
 //! A buffer pool that replaces by LRU-2 (O'Neil, O'Neil, Weikum, SIGMOD 1993) needs, of every
 //! page, the last two references. A [`History`] keeps these two and drops the rest. What
 //! is proved of it is stated over the references themselves, kept in full as a list and read as a
-//! set: a history *stands for* a list of references where it is what `specs/Histories.antt` calls
+//! set: a history *stands for* a list of references if it is what `specs/Histories.antt` calls
 //! their `history`.
 //!
 //! Histories of several replicas join to the history of all their references, whatever was lost,

@@ -8,8 +8,8 @@ use crate::hist::{Entry, PageHist};
 use crate::history::BucketEntries;
 use std::alloc::{AllocError, Global};
 
-/// The first of some entries, and whether more of them follow. Where more follow, the page of the
-/// last entry is the one after which to go on.
+/// The first of some entries, and whether more of them follow. If more follow, the page of the last
+/// entry is the one after which to go on.
 #[derive(Debug, Drop)]
 pub struct Portion {
     /// The entries, in rising page order.

@@ -23,7 +23,7 @@ pub one_bucket_more : (id : ℕ) (h : HistoryView) (so_far : List ℕ) (bucket :
 one_bucket_more id h so_far bucket =
     sym (flat_map-append (bucket_messages id h) so_far (bucket ∷ []) ∙ ap (λ fs. flat_map (bucket_messages id h) so_far ++ fs) (append-nil (bucket_messages id h bucket)))
 
--- where none is left, all are there
+-- if none is left, all are there
 pub all_requested : (id request : ℕ) (h : HistoryView) (so_far left : List ℕ)
     → so_far ++ left ≡ buckets_in request → left ≡ []
     → flat_map (bucket_messages id h) so_far ≡ requested_messages id h request

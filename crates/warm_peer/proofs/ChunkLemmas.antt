@@ -87,7 +87,7 @@ all_chosen : (bucket : ℕ) (after : Option PageId) (es : List Entry)
 all_chosen bucket after es = recursion_from_All (λ e. comes_after after e.page ≡ true) (chosen bucket after es) (All-weaker (λ e. is_next_in_bucket bucket after e.page ≡ true) (λ e. comes_after after e.page ≡ true)
     (λ e passes. (and_parts (page_bucket e.page == bucket) (comes_after after e.page) passes).1) (chosen bucket after es) (filter_passes (λ e. is_next_in_bucket bucket after e.page) es))
 
--- all of a bucket are chosen where no page is given
+-- all of a bucket are chosen if no page is given
 chosen-first : (bucket : ℕ) (es : List Entry) → bucket_entries bucket es ≡ chosen bucket None es
 chosen-first bucket es = filter_agree (λ e. page_bucket e.page == bucket) (λ e. is_next_in_bucket bucket None e.page) (λ e. sym (and-true (page_bucket e.page == bucket))) es
 

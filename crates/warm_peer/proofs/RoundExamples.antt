@@ -51,8 +51,8 @@ join_is : join primary standby ≡ both
 unfolding history
 join_is = refl
 
--- The same where replica 2 has the horizon 11: the first page is too old for it, and replica 1
--- forgets it when it receives that horizon.
+-- The same if replica 2 has the horizon 11: the first page is too old for it, and replica 1 forgets
+-- it when it receives that horizon.
 abbrev later : HistoryView
 later = history_of_entries_at 11 (two ∷ [])
 

@@ -89,8 +89,8 @@ abbrev CarriesEntries : Message → Type 0
 CarriesEntries (Entries sender horizon entries) = Unit {0}
 CarriesEntries other = ⊥
 
--- where messages of entries come, and then a request, the request alone is answered, from what is
--- known in the end
+-- if messages of entries come, and then a request, only the request is answered, from what is known
+-- in the end
 receives_request : (id sender horizon request : ℕ) (h : HistoryView)
     (messages answers : List Message) (new : HistoryView) → AllByRecursion CarriesEntries messages
     → Receives id h (messages ++ Want sender horizon request ∷ []) answers new
@@ -101,7 +101,7 @@ receives_request id sender horizon request h (Entries from time entries ∷ mess
     receives.4 ∙ ap (λ t. t ++ receives.1) receives.2 ∙ receives_request id sender horizon request (history_after h (Entries from time entries)) messages receives.1 new all.1 receives.3
 receives_request id sender horizon request h (other ∷ messages) answers new all receives = absurd all.0
 
--- where messages of entries come alone, there is no answer
+-- if only messages of entries come, there is no answer
 none_answered : (id : ℕ) (h : HistoryView) (messages answers : List Message) (new : HistoryView)
     → AllByRecursion CarriesEntries messages → Receives id h messages answers new → answers ≡ []
 none_answered id h [] answers new all receives = receives.0
@@ -304,7 +304,7 @@ given_alike S A B horizons alike = same_hists (S ∪ A) (S ∪ B) horizons (λ p
     ap (λ m. list_hist (references_from m (S.given ++ A.given)) p) horizons
     ∙ kept_alike (max S.horizon B.horizon) (S.given ++ A.given) (S.given ++ B.given) alike p)
 
--- and so where the second alone says the same
+-- the same if the second sets say the same of each page
 second_alike : (S A B : ReferenceSet) → max S.horizon A.horizon ≡ max S.horizon B.horizon
     → ((p : PageId) → list_hist A.given p ≡ list_hist B.given p) → history (S ∪ A) ≡ history (S ∪ B)
 second_alike S A B horizons alike = given_alike S A B horizons (λ p. hist-append S.given A.given p ∙ ap (joined (list_hist S.given p)) (alike p) ∙ sym (hist-append S.given B.given p))
@@ -392,7 +392,7 @@ other_way request h g differ bucket low = ((λ set same. (differ bucket low).0 s
 collision_too : (h g : HistoryView) → IsCollision h g → IsCollision g h
 collision_too h g c = record { bucket = c.bucket; low = c.low; differ = (λ same. c.differ (sym same)); same_digest = sym c.same_digest }
 
--- no bit of a request is set where no digest differs
+-- no bit of a request is set if no digest differs
 own_request : (request : ℕ) (h : HistoryView) → request < 2 ^ 64
     → IsDiffering (digests_of (entries_of h)) h request → request ≡ 0
 own_request request h fits differ = same_from_bits_below 64 request 0 fits (omega arith) (λ bucket low.
@@ -414,7 +414,7 @@ exchange_gives h g whole other =
     subst (λ (k : HistoryView). Gives h g k g) (history_of_own_references h whole)
     (subst (λ (l : HistoryView). Gives h g (history (references_of h)) l) (history_of_own_references g other) law)
 
--- where no bucket differs all entries are the same, whatever the horizons
+-- if no bucket differs, all entries are the same, whatever the horizons
 without_horizon : (h : HistoryView) → IsHistory h → IsHistory (history_of_entries (entries_of h))
 without_horizon h whole = record { pages_ascend = whole.pages_ascend; stamps_descend = whole.stamps_descend; none_older = never_older (entries_of h) }
 
@@ -506,7 +506,7 @@ asked i j h g h' g' round =
           inr (subst (λ messages. Receives i h messages round.given h') all round.received, round.back)
     ]
 
--- both have the entries of one history, which is all that j has and, where messages were requested,
+-- both have the entries of one history, which is all that j has and, if messages were requested,
 -- all that i has
 abbrev Both : HistoryView → HistoryView → HistoryView → List Message → Type 0
 Both all h' g' messages = (entries_of h' ≡ entries_of all) × (g' ≡ all) × ((messages ≡ [] → ⊥) → h' ≡ all)

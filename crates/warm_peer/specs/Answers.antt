@@ -32,7 +32,7 @@ IsDiffering digests h request = (bucket : ℕ) → bucket < BUCKETS
     ↔ (digest_at digests bucket ≢ digest_at (digests_of (entries_of h)) bucket)
 
 -- The answer to digests: the entries of the buckets that differ, and then a request for these;
--- nothing where none differs.
+-- nothing if none differs.
 abbrev pub AnswersDigests : ℕ → HistoryView → List (List ℕ) → List Message → Type 0
 AnswersDigests id h digests messages = (request : ℕ) × (request < 2 ^ 64)
     × IsDiffering digests h request

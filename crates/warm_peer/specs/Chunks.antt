@@ -7,7 +7,7 @@ use Rattle.warm_history.specs.Histories.{entries_of, history}
 use Rattle.warm_history.specs.Carried.{bucket_entries, carried}
 use Rattle.warm_frames.specs.Chunks.{chunks}
 
--- the page of the last of the entries, where there are any
+-- the page of the last of the entries, if there are any
 abbrev pub last_page : List Entry → Option PageId
 last_page [] = None
 last_page (e ∷ []) = Some e.page

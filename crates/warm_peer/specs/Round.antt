@@ -32,8 +32,8 @@ pub record HistoryRound (i j : ℕ) (h g h' g' : HistoryView) : Type 0 where
   pub back : Receives j (history_after g (offer i h)) given last g'
 
 -- After a round both histories have the entries of the join of the two before; that of j has its
--- horizon too, and that of i where j answered a message. Or two different texts of one bucket have
--- the same SHA-256 digest: one of h, and one of g at the greater horizon.
+-- horizon too, and that of i if j answered a message. Or two different texts of one bucket have the
+-- same SHA-256 digest: one of h, and one of g at the greater horizon.
 abbrev pub RoundJoins : (i j : ℕ) (h g h' g' : HistoryView) → Type 0
 RoundJoins i j h g h' g' = (round : HistoryRound i j h g h' g')
     → ((entries_of h' ≡ entries_of (join h g)) × (g' ≡ join h g)

@@ -8,8 +8,8 @@ use Rattle.warm_player.specs.Text.{split, words, has_bytes}
 use Rattle.warm_player.specs.Fields.{◌>>=◌, number_up_to, page_of_word, page_of_parts, slot_of_word, slot_of_parts, number_field, page_field, after_field, slot_field}
 use Rattle.warm_player.specs.TextHeads.{after_digits, head_number, behind, words_behind, head_page}
 use Rattle.warm_player.specs.TextHeads.{head_slot}
-use Rattle.warm_player.proofs.Words.{first_word, word_then, words_later, number_end}
-use Rattle.warm_player.proofs.Numbers.{digit_value}
+use Rattle.warm_player.proofs.NumberWordLemmas.{first_word, word_then, words_later, number_end}
+use Rattle.warm_player.proofs.NumberLemmas.{digit_value}
 use Rattle.warm_player.proofs.NumberPairLemmas.{two_of, pair_end}
 
 -- the words of a text that begins with no space
@@ -89,7 +89,7 @@ slot_read (c ∷ cs) none =
     ∙ slot_then (split 46 (first_word (c ∷ cs))) (λ s. Some (s, words_later (c ∷ cs)))
     ∙ pair_end 46 4294967295 (c ∷ cs) (λ s g later. Some (slot s g, later)) (behind 46 (after_digits (c ∷ cs))) refl (λ e. absurd (omega arith)) refl
 
--- ---- a page, or nothing where the line ends
+-- ---- a page, or nothing if the line ends
 
 pub after_nothing : (text : List ℕ) → length text ≡ 0 → after_field (words text) ≡ Some (None, [])
 unfolding after_field words

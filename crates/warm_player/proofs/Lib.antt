@@ -1,16 +1,16 @@
 pub mod SplitLemmas
 pub mod LeadingDigitLemmas
-pub mod Numbers
-pub mod Words
-pub mod Hexes
-pub mod Digits
+pub mod NumberLemmas
+pub mod NumberWordLemmas
+pub mod HexReadingLemmas
+pub mod HexDigitLemmas
 pub mod NumberPairLemmas
 pub mod FieldLemmas
-pub mod Stream
+pub mod StreamLemmas
 pub mod DeviceCountLemmas
 pub mod FrequentLineLemmas
-mod Tables
-mod Workers
-mod Runs
+mod CommandTableLemmas
+mod WorkerRequestLemmas
+mod RunLemmas
 mod Examples
-mod Rows
+mod ScheduleExamples

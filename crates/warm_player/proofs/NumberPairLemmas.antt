@@ -8,7 +8,7 @@ use Rattle.warm_player.specs.TextHeads.{is_digit, leading_digits, after_digits, 
 use Rattle.warm_player.specs.TextHeads.{words_behind}
 use Rattle.warm_player.proofs.LeadingDigitLemmas.{digit_more, digit_stop, after_more, after_stop, no_digit, stop, no_digits, none_up_to}
 use Rattle.warm_player.proofs.SplitLemmas.{first_of_split}
-use Rattle.warm_player.proofs.Words.{first_word, words_later, word_digits, word_after, later_is, looks_on, nothing_then, number_end}
+use Rattle.warm_player.proofs.NumberWordLemmas.{first_word, words_later, word_digits, word_after, later_is, looks_on, nothing_then, number_end}
 
 -- what is made of two parts that spell numbers
 abbrev pub two_of : {A : Type 0} → ℕ → (ℕ → ℕ → Option A) → List (List ℕ) → Option A
@@ -170,7 +170,7 @@ same_rest : {A B : Type 0} (o : Option A) (f g : A → Option B) → ((x : A) �
 same_rest None f g e = refl
 same_rest (Some x) f g e = e x
 
--- the first word is two numbers where it ends behind the second; `o` is what is behind the first
+-- the first word is two numbers if it ends behind the second; `o` is what is behind the first
 -- separator
 pub pair_end : {A : Type 0} (s limit : ℕ) (text : List ℕ) (make : ℕ → ℕ → List (List ℕ) → Option A)
     (o : Option (List ℕ)) → digit_of s ≡ None → s ≢ 32 → behind s (after_digits text) ≡ o

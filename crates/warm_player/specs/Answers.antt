@@ -49,7 +49,7 @@ end_text count = codes "end " ++ decimal count ++ codes "\n"
 abbrev pub shown_text : List Entry → List ℕ
 shown_text entries = flat_map entry_text entries ++ end_text (length entries)
 
--- how many messages answer, and the number of the first where there is one
+-- how many messages answer, and the number of the first if there is one
 abbrev pub took_text : ℕ → ℕ → List ℕ
 took_text zero first = codes "took 0\n"
 took_text (suc n) first = codes "took " ++ decimal (suc n) ++ codes " from " ++ decimal first
@@ -75,7 +75,7 @@ hex_text digit = if nat_lt digit 10 then 48 + digit else 87 + digit
 abbrev pub byte_text : ℕ → List ℕ
 byte_text byte = hex_text (byte / 16) ∷ hex_text (byte % 16) ∷ []
 
--- bytes after a space, or nothing where there is none
+-- bytes after a space, or nothing if there is none
 abbrev pub bytes_text : List ℕ → List ℕ
 bytes_text [] = []
 bytes_text (byte ∷ bytes) = codes " " ++ flat_map byte_text (byte ∷ bytes)
@@ -108,6 +108,6 @@ answer_text (Refused fault) = refused_text fault
 abbrev pub bad_line : ℕ → List ℕ
 bad_line number = codes "bad line " ++ decimal number ++ codes "\n"
 
--- the last line printed where writing back to the devices failed
+-- the last line printed if writing back to the devices failed
 abbrev pub end_refused : List ℕ
 end_refused = codes "end refused 12 Fault\n"

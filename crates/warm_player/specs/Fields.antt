@@ -103,7 +103,7 @@ page_field (word ∷ rest) = do
   page ← page_of_word word
   Some (page, rest)
 
--- a page, or nothing where the line ends before it
+-- a page, or nothing if the line ends before it
 unfoldable pub after_field : List (List ℕ) → Option (Option PageId × List (List ℕ))
 after_field [] = Some (None, [])
 after_field (word ∷ rest) = do

@@ -13,7 +13,7 @@ use Rattle.warm_player.specs.declared.parse.Line.{Line}
 use Rattle.warm_player.specs.declared.parse.Line.TheVariants as meant
 use Rattle.warm_player.specs.declared.parse.TheConstants.{MAX_LINE}
 
--- the event, where its line has no further word
+-- the event, if its line has no further word
 abbrev pub ends_with : List (List ℕ) → Event → Option Event
 ends_with [] event = Some event
 ends_with (word ∷ rest) event = None
@@ -173,10 +173,10 @@ line_of_words [] = Some meant.Nothing
 line_of_words (word ∷ rest) =
     if begins_with 35 word then Some meant.Nothing else option_map meant.Act (event_of word rest)
 
--- the meaning of a line of any length, or None where it is not of the language
+-- the meaning of a line of any length, or None if it is not of the language
 unfoldable pub line_of : List ℕ → Option Line
 line_of line = line_of_words (words line)
 
--- the meaning of a line, or None where it is bad: too long, or not of the language
+-- the meaning of a line, or None if it is bad: too long, or not of the language
 unfoldable pub meaning : List ℕ → Option Line
 meaning line = if nat_lt MAX_LINE (length line) then None else line_of line

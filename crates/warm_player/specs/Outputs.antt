@@ -17,7 +17,7 @@ use Rattle.warm_player.specs.Grammar.{meaning}
 use Rattle.warm_player.specs.Reading.{IsPut}
 use Rattle.warm_player.specs.Answers.{answer_text, refused_text, bad_line, end_refused}
 
--- An event is answered as the world's relation allows; where the relation allows an allocation
+-- An event is answered as the world's relation allows; if the relation allows an allocation
 -- failure, its refusal is printed.
 abbrev pub Happens : ModelState → Event → List ℕ → ModelState → Type 0
 Happens old event out new = (answer : Answer) × Next old event answer new
@@ -59,8 +59,8 @@ pub record MayFail (m : ModelState) : Type 0 where
 abbrev pub EndsIn : ModelState → List ℕ → List ℕ → Type 0
 EndsIn last answers out = (out ≡ answers) ⊎ (MayFail last × (out ≡ answers ++ end_refused))
 
--- A schedule that is played from `state` to its end may print `out`. Where no device may fail, that
--- is exactly the output of the lines.
+-- A schedule that is played from `state` to its end may print `out`. If no device may fail, that is
+-- exactly the output of the lines.
 abbrev pub Played : ModelState → List ℕ → List ℕ → Type 0
 Played state text out =
     (answers : List ℕ) × (last : ModelState) × Printed state text answers last

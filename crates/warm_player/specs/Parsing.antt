@@ -30,8 +30,8 @@ reader_of command.Restart = restart_of
 reader_of command.Horizon = horizon_of
 reader_of command.Show = show_of
 
--- the meaning of the line: nothing where it has no word or is a comment; the bytes of a put are
--- those that its word spells
+-- the meaning of the line: nothing if it has no word or is a comment; the bytes of a put are those
+-- that its word spells
 abbrev pub line_parsed : ParsedLine → Option Line
 line_parsed parsed.Nothing = Some meant.Nothing
 line_parsed (parsed.Event event) = Some (meant.Act event)

@@ -7,7 +7,7 @@ use Rattle.warm_player.specs.declared.parse.Line.TheVariants as meant
 use Rattle.warm_player.specs.declared.parse.LineFault.{LineFault}
 use Rattle.warm_player.specs.declared.parse.LineFault.TheVariants.{Memory, Bad}
 
--- The meaning is returned, and Bad where there is none. Memory may be returned in place of a value
+-- The meaning is returned, and Bad if there is none. Memory may be returned in place of a value
 -- that needs an allocation.
 abbrev pub Reads : {A : Type 0} → (A → Type 0) → Option A → Result A LineFault → Type 0
 Reads Takes said (Err Memory) = MatchOption said ⊥ Takes

@@ -29,7 +29,7 @@ abbrev pub behind : ℕ → List ℕ → Option (List ℕ)
 behind separator [] = None
 behind separator (c ∷ cs) = if c == separator then Some cs else None
 
--- the words behind the end of a word, where the word ends here
+-- the words behind the end of a word, if the word ends here
 abbrev pub words_behind : List ℕ → Option (List (List ℕ))
 words_behind [] = Some []
 words_behind (c ∷ cs) = if c == 32 then Some (words cs) else None

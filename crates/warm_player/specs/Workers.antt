@@ -19,8 +19,8 @@ abbrev pub or_not_for_worker : Option WorkerRequest → Result (Option WorkerReq
 or_not_for_worker None = Err (record {})
 or_not_for_worker (Some asked) = Ok (Some asked)
 
--- the request to a worker of a line of this meaning: None where it means nothing, and an error
--- where it is bad or has no request to a worker
+-- the request to a worker of a line of this meaning: None if it means nothing, and an error if it
+-- is bad or has no request to a worker
 abbrev pub worker_request_in : Option Line → Result (Option WorkerRequest) NotForWorker
 worker_request_in None = Err (record {})
 worker_request_in (Some meant.Nothing) = Ok None

@@ -114,7 +114,7 @@ pub(crate) fn read_fields(command: Command, fields: &[u8]) -> Option<ParsedLine<
     }
 }
 
-// The event, where no further word follows. Taken into its callers, which then pass no event.
+// The event, if no further word follows. Taken into its callers, which then pass no event.
 #[inline(always)]
 fn ends_with(rest: &[u8], event: Event) -> Option<ParsedLine<'_>>
     ensures { option_and_then line_parsed result

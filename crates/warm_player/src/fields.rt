@@ -28,7 +28,7 @@ fn digit(c: u8) -> Option<u8>
     }
 }
 
-// The number with one more digit, where it fits in 64 bits.
+// The number with one more digit, if it fits in 64 bits.
 fn with_digit(number: u64, digit: u8) -> Option<u64>
     ensures { MatchOption result (2 ^ 64 ≤ 10 * number + digit)
         (λ n. n ≡ 10 * number + digit) }
@@ -36,7 +36,7 @@ fn with_digit(number: u64, digit: u8) -> Option<u64>
     number.checked_mul(10)?.checked_add(u64::from(digit))
 }
 
-// The digit at the head of a text, and what follows it. `None` where the text begins with none.
+// The digit at the head of a text, and what follows it. `None` if the text begins with none.
 fn first_digit(text: &[u8]) -> Option<(u8, &[u8])>
     ensures parts { MatchOption result (prefix_len is_digit text.now ≡ 0)
         (λ x. text.now ≡ (48 + x.0) ∷ x.1.now) }
@@ -49,7 +49,7 @@ fn first_digit(text: &[u8]) -> Option<(u8, &[u8])>
     Some((digit(*c)?, rest))
 }
 
-// The number that the digits at the head of a text spell, where it is at most `limit`, and what
+// The number that the digits at the head of a text spell, if it is at most `limit`, and what
 // follows them: one pass finds the end and the number.
 fn leading_number(text: &[u8], limit: u64) -> Option<(u64, &[u8])>
     ensures value { option_map (λ x. (x.0, x.1.now)) result ≡ head_number limit text.now }
@@ -115,7 +115,7 @@ fn hex_digit(c: u8) -> Option<u8>
     }
 }
 
-// The byte that the first two digits spell, and what follows them. `None` where there is none.
+// The byte that the first two digits spell, and what follows them. `None` if there is none.
 fn first_byte(digits: &[u8]) -> Option<(u8, &[u8])>
     ensures spelled { MatchOption result (0 < length digits.now → hex_pairs digits.now ≡ None)
         (λ x. hex_pairs digits.now ≡ option_map (λ more. x.0 ∷ more) (hex_pairs x.1.now)) }
@@ -142,7 +142,7 @@ fn spells_bytes(word: &[u8]) -> bool
     rest.is_empty()
 }
 
-// The bytes that a word spells. It allocates only where the word spells bytes.
+// The bytes that a word spells. It allocates only if the word spells bytes.
 pub(crate) fn parse_bytes(alloc: Global, word: &[u8]) -> Result<ByteList, LineFault>
     ensures { Reads TakesMemory (bytes_of_hex word.now) result }
 {
@@ -249,7 +249,7 @@ pub(crate) fn read_page(fields: &[u8]) -> Option<(PageId, &[u8])>
     leading_page(from_word(fields))
 }
 
-// A page, or nothing where the line ends before it.
+// A page, or nothing if the line ends before it.
 #[tactic(auto, using(crate::proofs::FieldLemmas::after_nothing, crate::proofs::FieldLemmas::after_read), unfolding(crate::specs::Text::words))]
 pub(crate) fn read_after(fields: &[u8]) -> Option<(Option<PageId>, &[u8])>
     ensures { option_map (λ x. (x.0, words x.1.now)) result ≡ after_field (words fields.now) }

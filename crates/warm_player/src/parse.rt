@@ -68,8 +68,8 @@ impl From<AllocError> for LineFault {
 /// begins with.
 pub const MAX_LINE: usize = 262144;
 
-// The meaning of a line of any length, read without allocation: `None` where it is bad. The word
-// that should spell the bytes of a `put` is not read.
+// The meaning of a line of any length, read without allocation: `None` if it is bad. The word that
+// should spell the bytes of a `put` is not read.
 #[tactic(auto, unfolding(crate::specs::Grammar::line_of))]
 #[inline(never)]
 fn parsed_any(line: &[u8]) -> Option<ParsedLine<'_>>
@@ -134,7 +134,7 @@ fn parsed_soon(line: &[u8]) -> Option<ParsedLine<'_>>
     parsed_any(line)
 }
 
-// The meaning of a line, read without allocation: `None` where it is bad.
+// The meaning of a line, read without allocation: `None` if it is bad.
 #[tactic(auto, unfolding(crate::specs::Grammar::meaning))]
 #[inline(always)]
 pub(crate) fn parsed_in(line: &[u8]) -> Option<ParsedLine<'_>>

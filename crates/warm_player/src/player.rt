@@ -176,7 +176,7 @@ impl<D: PageDevice> Session<D> {
     }
 
     // Processes the next bytes of the schedule, and answers each line that ends in them: `true`
-    // where one does.
+    // if one does.
     fn feed<W: Write>(&mut self, bytes: &[u8], writer: &mut W) -> Result<bool, PlayFault>
         requires { self.old.number + length bytes.now < 2 ^ 64 }
         ensures goes { OnOk result ((out : List ℕ)
@@ -196,7 +196,7 @@ impl<D: PageDevice> Session<D> {
         Ok(ends_line)
     }
 
-    // Writes back all pages and flushes the devices, and prints a line where that fails.
+    // Writes back all pages and flushes the devices, and prints a line if that fails.
     fn settle<W: Write>(&mut self, writer: &mut W) -> Result<(), PlayFault>
         ensures settled { OnOk result ((out : List ℕ)
             × Appends (W.contents writer.old) (W.contents writer.new) out
@@ -214,7 +214,7 @@ impl<D: PageDevice> Session<D> {
     }
 
     // Answers the last line, which has no line end, settles the devices, and flushes the writer.
-    // Where nothing is printed for the end, no frame is dirty and no device is unflushed, so each
+    // If nothing is printed for the end, no frame is dirty and no device is unflushed, so each
     // honest device has its pages as they were in the frames.
     fn finish<W: Write>(&mut self, writer: &mut W) -> Result<(), PlayFault>
         ensures ended { OnOk result ((answers closing : List ℕ)

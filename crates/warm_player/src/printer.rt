@@ -183,7 +183,7 @@ fn print_digits<W: Write>(writer: &mut W, bytes: &[u8]) -> io::Result<()>
     writer.write_all(&digits[..2 * bytes.len()])
 }
 
-// Bytes after a space, or nothing where there is none.
+// Bytes after a space, or nothing if there is none.
 fn print_bytes<W: Write>(writer: &mut W, bytes: &[u8]) -> io::Result<()>
     ensures { Prints result (W.contents writer.old) (W.contents writer.new) (bytes_text bytes.now) }
 {

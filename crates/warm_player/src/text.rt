@@ -16,7 +16,7 @@ pub fn first_line(text: &[u8]) -> Option<(&[u8], &[u8])>
     Some((&text[..end], &text[end + 1..]))
 }
 
-// The piece before the first separator, and what follows it. `None` where there is no separator.
+// The piece before the first separator, and what follows it. `None` if there is no separator.
 fn cut(text: &[u8], separator: u8) -> Option<(&[u8], &[u8])>
     ensures pieces { MatchOption result (split separator text.now ≡ text.now ∷ [])
         (λ x. split separator text.now ≡ x.0.now ∷ split separator x.1.now) }
@@ -30,7 +30,7 @@ fn cut(text: &[u8], separator: u8) -> Option<(&[u8], &[u8])>
     None
 }
 
-// The first word of a line, and what follows it. `None` where there is no word.
+// The first word of a line, and what follows it. `None` if there is no word.
 pub(crate) fn next_word(line: &[u8]) -> Option<(&[u8], &[u8])>
     ensures { MatchOption result (words line.now ≡ [])
         (λ x. words line.now ≡ x.0.now ∷ words x.1.now) }
@@ -77,7 +77,7 @@ fn after_spaces(text: &[u8]) -> &[u8]
     rest
 }
 
-// What follows this byte at the head of a text. `None` where the text begins with none.
+// What follows this byte at the head of a text. `None` if the text begins with none.
 pub(crate) fn after_byte(text: &[u8], byte: u8) -> Option<&[u8]>
     ensures { option_map (λ rest. rest.now) result ≡ behind byte text.now }
 {
@@ -87,7 +87,7 @@ pub(crate) fn after_byte(text: &[u8], byte: u8) -> Option<&[u8]>
     }
 }
 
-// What follows the end of a word. `None` where the word goes on.
+// What follows the end of a word. `None` if the word goes on.
 #[tactic(auto, unfolding(crate::specs::Text::words))]
 pub(crate) fn after_word(text: &[u8]) -> Option<&[u8]>
     ensures { option_map (λ rest. words rest.now) result ≡ words_behind text.now }
@@ -99,7 +99,7 @@ pub(crate) fn after_word(text: &[u8]) -> Option<&[u8]>
     }
 }
 
-// What follows two bytes at the head of a text. `None` where it begins with others.
+// What follows two bytes at the head of a text. `None` if it begins with others.
 #[inline(always)]
 pub(crate) fn after_two(text: &[u8], first: u8, second: u8) -> Option<&[u8]>
     ensures { IfSome result (λ rest. text.now ≡ first ∷ second ∷ rest.now) }

@@ -32,7 +32,7 @@ pub enum WorkerRequest {
 #[error("NotForWorker")]
 pub struct NotForWorker;
 
-// The request of an event to a worker. `None` where it has none.
+// The request of an event to a worker. `None` if it has none.
 fn request_of(event: &Event) -> Option<WorkerRequest>
     ensures { result ≡ worker_request_of event.now }
 {
@@ -54,7 +54,7 @@ fn request_of(event: &Event) -> Option<WorkerRequest>
 /// The request of a line, given without its line end, to a worker. `None` if the line has no
 /// word or is a comment, [`NotForWorker`] if it is bad or is not a request to a worker. The
 /// meaning of the line is that of [`parse_line`](crate::parse_line). Allocation-free.
-#[tactic(auto, using(crate::proofs::Workers::put_is_for_no_worker))]
+#[tactic(auto, using(crate::proofs::WorkerRequestLemmas::put_is_for_no_worker))]
 pub fn parse_worker_line(line: &[u8]) -> Result<Option<WorkerRequest>, NotForWorker>
     ensures { result ≡ worker_request_in (meaning line.now) }
 {

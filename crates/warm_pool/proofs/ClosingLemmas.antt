@@ -65,7 +65,7 @@ nth_other which (suc n) [] i not = refl
 nth_other which (suc n) (f ∷ frames) zero not = ap (λ (t : Bool). cond t (cleaned f) f) not
 nth_other which (suc n) (f ∷ frames) (suc i) not = nth_other which n frames i not
 
--- two steps, the second over frames with the same pages, that are clean where they were
+-- two steps, the second over frames with the same pages, that are clean if they were
 pub kept_both : (frames later : List FrameState) (a b c : List DeviceState)
     → ((i : ℕ) → (nth_frame later i).page ≡ (nth_frame frames i).page)
     → ((i : ℕ) → (nth_frame frames i).dirty ≡ false → (nth_frame later i).dirty ≡ false)

@@ -19,9 +19,9 @@ use Rattle.warm_pool.specs.Unchanged.{KeepsContents}
 use Rattle.warm_pool.specs.WritingBack.{WritesBack, cleaned_selected}
 use Rattle.warm_pool.specs.Retiring.{Emptied, emptied}
 use Rattle.warm_pool.specs.steps.Retiring.{AreUnfixed}
-use Rattle.warm_pool.proofs.Bytes.{bytes_nowhere, where_is, contents_seen, device_seen, frame_seen}
+use Rattle.warm_pool.proofs.PageByteLemmas.{bytes_nowhere, where_is, contents_seen, device_seen, frame_seen}
 use Rattle.warm_pool.proofs.PoolLemmas.{pool_from, stored_honest}
-use Rattle.warm_pool.proofs.Loads.{contents_absent}
+use Rattle.warm_pool.proofs.LoadLemmas.{contents_absent}
 use Rattle.warm_pool.proofs.ClosingLemmas.{clean_each, nth_page}
 use Rattle.warm_pool.proofs.SettleLemmas.{down_view}
 
@@ -171,7 +171,7 @@ pub empty_settled : (t : PoolState) → IsSettled t
     → IsSettled (record t { frames = vacated_selected All t.frames })
 empty_settled t settled = record { clean = λ i. ap (λ f. f.dirty) (nth_vacated All t.frames i); flushed = settled.flushed }
 
--- the same, where the frames are said by an equation
+-- the same, if an equation gives the frames
 pub becomes_empty : (P : PoolState → Type 0) (which : Devices) (old new : FramesState) (spare : ℕ)
     (devices : List DeviceState) → new ≡ record old { frames = vacated_selected which old.frames }
     → P (record (pool_from old spare devices) { frames = vacated_selected which old.frames })

@@ -83,7 +83,7 @@ unpinned_may_leave = refl
 generation_stays : (emptied (frame_at (seen true) 1)).generation ≡ 1
 generation_stays = refl
 
--- where the second of two writes fails, the first frame is clean and the second is not
+-- if the second of two writes fails, the first frame is clean and the second is not
 first_is_clean : cleaned_to 1 (history_of_entries 1 0 [] ∷ history_of_entries 2 0 [] ∷ [])
     ≡ (let f : FrameState = record (history_of_entries 1 0 []) { dirty = false } in f)
     ∷ history_of_entries 2 0 [] ∷ []
@@ -107,7 +107,7 @@ none_after i low high = absurd (omega arith)
 
 -- ---- the frame into which a page is loaded
 
--- into the first frame without a page, also where another page could leave
+-- into the first frame without a page, even if another page could leave
 first_free_place : IsFrameToLoad (alone [])
     (view_of (two_frames true (history_of_entries 1 0 []) (fresh_frame []))) (Some 1)
 first_free_place = inl (record { there = omega arith; free = refl; least = first_is_held })
@@ -126,7 +126,7 @@ both_held honest m n a b zero lt is = let no : Some (page 1) ≡ None = is in ab
 both_held honest m n a b (suc zero) lt is = let no : Some (page 2) ≡ None = is in absurd (cc)
 both_held honest m n a b (suc (suc i)) lt is = absurd (omega arith)
 
--- nowhere where both pages are pinned
+-- into none if both pages are pinned
 no_place : IsFrameToLoad (alone [])
     (view_of (two_frames true (history_of_entries 1 1 []) (history_of_entries 2 3 []))) None
 no_place = (both_held true 1 3 [] [], refl)

@@ -16,13 +16,13 @@ use Rattle.warm_pool.specs.steps.WritingBack.{Cleans}
 use Rattle.warm_pool.specs.Calls.{FlushesNone, ReadsNone}
 use Rattle.warm_pool.specs.Filling.{AreFromDevice, TakesFilled}
 use Rattle.warm_pool.specs.steps.Filling.{FillsInto}
-use Rattle.warm_pool.proofs.Bytes.{bytes_nowhere, contents_seen, device_seen, frame_seen, absent_seen}
+use Rattle.warm_pool.proofs.PageByteLemmas.{bytes_nowhere, contents_seen, device_seen, frame_seen, absent_seen}
 use Rattle.warm_pool.proofs.PoolLemmas.{pool_from, stored_honest}
-use Rattle.warm_pool.proofs.Arrivals.{spare_keeps}
-use Rattle.warm_pool.proofs.Loads.{PutsPage, put_pool, put_keeps}
+use Rattle.warm_pool.proofs.FetchedPageLemmas.{spare_keeps}
+use Rattle.warm_pool.proofs.LoadLemmas.{PutsPage, put_pool, put_keeps}
 use Rattle.warm_pool.proofs.CallLemmas.{same_none, same_unread}
-use Rattle.warm_pool.proofs.PoolSteps.{has_device, has_number}
-use Rattle.warm_pool.proofs.WriteBacks.{cleans_view}
+use Rattle.warm_pool.proofs.FrameChoiceLemmas.{has_device, has_number}
+use Rattle.warm_pool.proofs.WriteBackLemmas.{cleans_view}
 use Rattle.warm_pool.proofs.ZeroingLemmas.{nth_old, still_nowhere, zero_there, put_bytes}
 
 -- what a caller sees as the bytes of the page is what its device has

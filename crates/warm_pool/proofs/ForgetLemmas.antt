@@ -18,7 +18,7 @@ use Rattle.warm_pool.specs.WritingBack.{clean_if, cleaned_selected}
 use Rattle.warm_pool.specs.steps.Retiring.{IsFixedIn, AreUnfixed}
 use Rattle.warm_pool.specs.Forgetting.{AreUnfixedFrom, Forgets, IsFixedFrom}
 use Rattle.warm_pool.specs.steps.Forgetting.{selected_cleaned}
-use Rattle.warm_pool.proofs.Bytes.{bytes_nowhere, contents_seen, device_seen, frame_seen, page_found}
+use Rattle.warm_pool.proofs.PageByteLemmas.{bytes_nowhere, contents_seen, device_seen, frame_seen, page_found}
 use Rattle.warm_pool.proofs.PoolLemmas.{pool_from}
 use Rattle.warm_pool.proofs.ClosingLemmas.{clean_more}
 use Rattle.warm_pool.proofs.EmptyLemmas.{nth_vacated, vacated_pool, vacated_ranked, becomes_empty}
@@ -171,7 +171,7 @@ module _ (s : PoolState) (dev from : ℕ) (there : dev < length s.devices)
         ∙ sym (contents_seen s p in_it.0 in_it.1);
   }
 
--- the same, where the frames are said by an equation
+-- the same, if an equation gives the frames
 pub forget_pool : (which : Devices) (old new : FramesState) (spare : ℕ) (devices : List DeviceState)
     → IsPool (pool_from old spare devices) → AreUnfixed which old.frames
     → new ≡ record old { frames = vacated_selected which old.frames }

@@ -14,7 +14,7 @@ use Rattle.warm_pool.specs.steps.WritingBack.{WritesBackAll}
 use Rattle.warm_pool.specs.WritingSome.{StopsAtFlush}
 use Rattle.warm_pool.specs.steps.Flushes.{FlushFails, NoneWaits}
 use Rattle.warm_pool.specs.HandingBack.{HandsBack, HandsBackOne}
-use Rattle.warm_pool.proofs.Bytes.{where_is, contents_seen}
+use Rattle.warm_pool.proofs.PageByteLemmas.{where_is, contents_seen}
 use Rattle.warm_pool.proofs.PoolLemmas.{stored_honest}
 use Rattle.warm_pool.proofs.FlushLemmas.{same_shape}
 use Rattle.warm_pool.proofs.SettleLemmas.{all_clean, count_at, down_view}

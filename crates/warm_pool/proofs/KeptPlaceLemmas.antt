@@ -21,10 +21,10 @@ use Rattle.warm_pool.specs.Retiring.{emptied, Retired}
 use Rattle.warm_pool.specs.Forgetting.{Forgets}
 use Rattle.warm_pool.specs.Zeroing.{FixesZeroed, PutsZeros}
 use Rattle.warm_pool.specs.Laws.{KeepsPlaces, LeavingKeepsPlaces, PinsKeepPlaces, SameFramesKeepPlaces, UnpinsKeepPlaces}
-use Rattle.warm_pool.proofs.Bytes.{frame_seen}
+use Rattle.warm_pool.proofs.PageByteLemmas.{frame_seen}
 use Rattle.warm_pool.proofs.EmptyLemmas.{nth_vacated}
-use Rattle.warm_pool.proofs.Pins.{placed_there}
-use Rattle.warm_pool.proofs.PinsAdded.{no_frame}
+use Rattle.warm_pool.proofs.PinLemmas.{placed_there}
+use Rattle.warm_pool.proofs.AddedPinLemmas.{no_frame}
 use Rattle.warm_pool.proofs.PlacedLemmas.{IsOnce, once_seen}
 
 -- the frame has the page that it had, of the same generation
@@ -32,7 +32,7 @@ record IsAsBefore (old new : FrameView) : Type 0 where
   page : new.page ≡ old.page
   generation : new.generation ≡ old.generation
 
--- where each frame has its page still, or none, the pages that are resident still have not moved
+-- if each frame still has its page, or none, the pages that are resident still have not moved
 kept_or_left : (v w : PoolView) → IsOnce v
     → ((i : ℕ) → IsAsBefore (frame_at v i) (frame_at w i) ⊎ ((frame_at w i).page ≡ None))
     → KeepsPlaces v w

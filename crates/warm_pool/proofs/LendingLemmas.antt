@@ -12,7 +12,7 @@ use Rattle.warm_pool.specs.View.{view_of, Holds}
 use Rattle.warm_pool.specs.Lending.{relent_pool}
 use Rattle.warm_pool.specs.Laws.{IsWrittenWhole}
 use Rattle.warm_pool.proofs.PoolLemmas.{pool_from, held_there, held_some}
-use Rattle.warm_pool.proofs.Writes.{overwritten, write_pool, write_dirty, write_ranked, write_view}
+use Rattle.warm_pool.proofs.WriteLemmas.{overwritten, write_pool, write_dirty, write_ranked, write_view}
 
 append_nothing : (xs ys : List ℕ) → length ys ≡ 0 → xs ++ ys ≡ xs
 append_nothing xs [] none = append-nil xs
@@ -25,7 +25,7 @@ dropped_all xs n most = length-drop n xs ∙ omega arith
 pub length-refilled : (old w : List ℕ) → length (refilled old w) ≡ length old
 length-refilled old w = simp (length-take, length-append, length-drop) (omega arith)
 
--- all that was left, where its length is that of the page
+-- all bytes that were left, if they are as many as a page has
 pub refilled_whole : (old w : List ℕ) → length w ≡ length old → refilled old w ≡ w
 refilled_whole old w same = ap (λ n. take n (w ++ drop (length w) old)) (sym same) ∙ take-append_seam w (drop (length w) old)
 

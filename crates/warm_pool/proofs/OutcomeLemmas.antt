@@ -15,10 +15,10 @@ use Rattle.warm_pool.specs.Zeroing.{LeavesUnread}
 use Rattle.warm_pool.specs.steps.Pinning.{FetchFails, FixRefused}
 use Rattle.warm_pool.specs.steps.Zeroing.{ZeroFails}
 use Rattle.warm_pool.specs.Outcomes.{LoadFails, PinFails, UnreadPinFails}
-use Rattle.warm_pool.proofs.Bytes.{absent_seen}
+use Rattle.warm_pool.proofs.PageByteLemmas.{absent_seen}
 use Rattle.warm_pool.proofs.CallLemmas.{same_none, same_unread}
 use Rattle.warm_pool.proofs.UnchangedLemmas.{failed_leaves, full_leaves, unknown_leaves}
-use Rattle.warm_pool.proofs.Pins.{full_stays, load_refused, pin_full, pin_refused, put_refused, put_stays, same_frames, stays_by}
+use Rattle.warm_pool.proofs.PinLemmas.{full_stays, load_refused, pin_full, pin_refused, put_refused, put_stays, same_frames, stays_by}
 use Rattle.warm_pool.proofs.ZeroingLemmas.{full_leaves_unread, full_unread, unknown_leaves_unread, unknown_unread, zero_failed, zero_leaves, zero_unread}
 
 -- what both outcomes have holds after the call

@@ -11,8 +11,8 @@ use Rattle.warm_pool.specs.declared.slot.Placed.{Placed}
 use Rattle.warm_pool.specs.State.{PoolState, IsPool}
 use Rattle.warm_pool.specs.View.{PoolView, FrameView, frame_at, view_of, IsResident, IsAbsent}
 use Rattle.warm_pool.specs.Pinning.{AddsFix, PutsIn, IsPlaced}
-use Rattle.warm_pool.proofs.Bytes.{frame_seen}
-use Rattle.warm_pool.proofs.Pins.{placed_there}
+use Rattle.warm_pool.proofs.PageByteLemmas.{frame_seen}
+use Rattle.warm_pool.proofs.PinLemmas.{placed_there}
 
 -- no page is evicted for a resident one
 pub placed_resident : (v w : PoolView) (p : PageId) (placed : Placed) → placed.evicted ≡ None

@@ -15,7 +15,7 @@ use Rattle.warm_pool.specs.State.{PoolState, IsPool, RankedBy, no_device, nth_de
 use Rattle.warm_pool.specs.View.{stored, contents_of, frame_view, device_view, view_of, PoolView, FrameView, Holds, frame_at}
 use Rattle.warm_pool.specs.WritingBack.{KeptDevices}
 use Rattle.warm_pool.specs.Pinning.{unpinned}
-use Rattle.warm_pool.proofs.Bytes.{bytes_alike, bytes_kept, contents_same, frame_seen}
+use Rattle.warm_pool.proofs.PageByteLemmas.{bytes_alike, bytes_kept, contents_same, frame_seen}
 
 -- a frame that may be at index i of a pool
 pub record Fits (s : PoolState) (i : ℕ) (g : FrameState) : Type 0 where
@@ -77,14 +77,14 @@ alike_fits s i g h a w = record {
   bare = λ e. let less = a.bare e in let was = w.bare i (sym a.page ∙ e) in (less.0, less.1, a.dirty ∙ was.2);
 }
 
--- the ranks, where a frame changed to another that the history ranks as it says
+-- the ranks, if a frame changed to another that the history ranks as it says
 pub ranked_set : (s : PoolState) (i : ℕ) (g : FrameState) (h : HistoryView) → i < length s.frames
     → g.key ≡ option_map (λ p. rank_key p (hist (references_of h) p)) g.page → RankedBy s h
     → RankedBy (record s { frames = set s.frames i g }) h
 ranked_set s i g h there e r =
     at_set (fresh_frame []) (λ k x. x.key ≡ option_map (λ p. rank_key p (hist (references_of h) p)) x.page) s.frames i g there e (λ k ne. r k)
 
--- what a caller sees, where a frame changed, but neither its page nor its bytes
+-- what a caller sees, if a frame changed, but neither its page nor its bytes
 pub view-set : (s : PoolState) (i : ℕ) (g : FrameState) → g.page ≡ (nth_frame s.frames i).page
     → g.bytes ≡ (nth_frame s.frames i).bytes
     → view_of (record s { frames = set s.frames i g })
@@ -119,7 +119,7 @@ devices_keep_pool s ds d w = record {
   bare = w.bare;
 }
 
--- what a caller sees, where the devices changed but kept what is in no frame
+-- what a caller sees, if the devices changed but kept what is in no frame
 pub view_of_kept : (s : PoolState) (ds : List DeviceState) → KeptDevices s.frames s.devices ds
     → view_of (record s { devices = ds })
     ≡ record (view_of s) { failures = map (λ d. d.failures) ds }

@@ -17,7 +17,7 @@ use Rattle.warm_pool.specs.View.{is_page, frame_view, view_of, PoolView, FrameVi
 use Rattle.warm_pool.specs.Unchanged.{KeepsBytes}
 use Rattle.warm_pool.specs.Refreshing.{AgreeOutside, UpdatesNamedRanks}
 use Rattle.warm_pool.specs.steps.Refreshing.{UpdatesRank, UpdatesRankIn}
-use Rattle.warm_pool.proofs.Bytes.{page_found, found_page}
+use Rattle.warm_pool.proofs.PageByteLemmas.{page_found, found_page}
 use Rattle.warm_pool.proofs.UnchangedLemmas.{same_bytes, more_bytes}
 use Rattle.warm_pool.proofs.PoolLemmas.{IsAlike, pool_from, step_pool, step_view}
 
@@ -137,7 +137,7 @@ each_renewed {s} {t} h pages k r all i p holds named = elim (r.keys i p (sym (r.
     below : (j : ℕ) → j < length pages → j < k
     below j lt = omega arith
 
--- the same where items name the pages
+-- the same for the pages that items name
 pub named_renewed : {A : Type 0} {s t u : PoolState} (h : HistoryView) (named : A → PageId)
     (items : List A) (k : ℕ) (item : A) {q : PageId} → Renewed s t h (map named items) k
     → k < length items

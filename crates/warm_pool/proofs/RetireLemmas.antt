@@ -21,12 +21,12 @@ use Rattle.warm_pool.specs.Retiring.{Retired, MayRetire, IsFixedOn, emptied, Kee
 use Rattle.warm_pool.specs.steps.Retiring.{IsFixedIn, AreUnfixed, PreparesRetire}
 use Rattle.warm_pool.specs.steps.Flushes.{IsFlushed, FlushFails}
 use Rattle.warm_pool.proofs.FlushLemmas.{same_shape}
-use Rattle.warm_pool.proofs.DeviceSteps.{failures_kept, failures_grown}
-use Rattle.warm_pool.proofs.Bytes.{bytes_nowhere, contents_seen, device_seen, frame_seen, page_found}
+use Rattle.warm_pool.proofs.DeviceCallLemmas.{failures_kept, failures_grown}
+use Rattle.warm_pool.proofs.PageByteLemmas.{bytes_nowhere, contents_seen, device_seen, frame_seen, page_found}
 use Rattle.warm_pool.proofs.PoolLemmas.{pool_from, view_of_kept}
 use Rattle.warm_pool.proofs.SettleLemmas.{AreAlike, counts, alike_kept, down_view, flush_down, flush_fails_at}
 use Rattle.warm_pool.proofs.ClosingLemmas.{nth_other, clean_to}
-use Rattle.warm_pool.proofs.OtherDevices.{flushed_others}
+use Rattle.warm_pool.proofs.OtherDeviceLemmas.{flushed_others}
 use Rattle.warm_pool.proofs.EmptyLemmas.{nth_vacated, vacated_pool, vacated_ranked, unfixed_to}
 
 -- One device replaced or flushed
@@ -212,7 +212,7 @@ module _ (dev : ℕ) (t : PoolState) (device : DeviceState) (there : dev < lengt
       → Retired (view_of s) dev device (view_of u)
   retired_view s same = subst (λ v. Retired v dev device (view_of u)) same retired_seen
 
--- the same, where frames and devices are said by equations
+-- the same, if equations give frames and devices
 pub took_in : (old new : FramesState) (spare : ℕ) (devices later : List DeviceState) (dev : ℕ)
     (device : DeviceState) → IsPool (pool_from old spare devices) → dev < length devices
     → device.page_size ≡ old.page_size

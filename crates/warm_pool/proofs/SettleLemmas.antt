@@ -22,7 +22,7 @@ use Rattle.warm_pool.specs.WritingBack.{WriteBackFails, KeptDevices, WritesBack,
 use Rattle.warm_pool.specs.steps.Flushes.{FlushedTo, FlushStops, NoneWaits}
 use Rattle.warm_pool.proofs.FlushLemmas.{same_shape}
 use Rattle.warm_pool.proofs.ClosingLemmas.{clean_each, nth_page, kept_both}
-use Rattle.warm_pool.proofs.Bytes.{contents_same, device_seen}
+use Rattle.warm_pool.proofs.PageByteLemmas.{contents_same, device_seen}
 use Rattle.warm_pool.proofs.PoolLemmas.{view_of_kept}
 
 -- Frames that may have been cleaned

@@ -19,7 +19,7 @@ use Rattle.warm_pool.specs.Calls.{FlushesNone}
 use Rattle.warm_pool.specs.DeviceCalls.{read_at}
 use Rattle.warm_pool.specs.Pinning.{IsFrameToLoad, LoadRefused, TakesFrame, LeavesDevices, IsUnwritten}
 use Rattle.warm_pool.specs.steps.Pinning.{FixRefused, LoadsInto, FetchFails}
-use Rattle.warm_pool.proofs.Bytes.{absent_seen, frame_seen}
+use Rattle.warm_pool.proofs.PageByteLemmas.{absent_seen, frame_seen}
 use Rattle.warm_pool.proofs.FlushLemmas.{if_err}
 use Rattle.warm_pool.proofs.PoolLemmas.{pool_from}
 use Rattle.warm_pool.proofs.CallLemmas.{same_none}

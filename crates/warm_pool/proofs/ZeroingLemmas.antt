@@ -29,16 +29,16 @@ use Rattle.warm_pool.specs.Lending.{relent_pool}
 use Rattle.warm_pool.specs.Laws.{IsWrittenWhole}
 use Rattle.warm_pool.specs.Zeroing.{KeepsContentsBut, PutsZeros, TakesZeroed, ZeroedRefused, LeavesUnread}
 use Rattle.warm_pool.specs.steps.Zeroing.{ZeroesInto, ZeroFails, FixesZeros, zeroed_frame}
-use Rattle.warm_pool.proofs.Bytes.{where_is, bytes_held, contents_seen, device_seen, frame_seen, nowhere_seen, absent_seen}
+use Rattle.warm_pool.proofs.PageByteLemmas.{where_is, bytes_held, contents_seen, device_seen, frame_seen, nowhere_seen, absent_seen}
 use Rattle.warm_pool.proofs.PoolLemmas.{Fits, pool_from, set_keeps_pool, stored_honest, ranked_set}
-use Rattle.warm_pool.proofs.Loads.{contents_absent, held_size}
-use Rattle.warm_pool.proofs.Pins.{placed_there}
+use Rattle.warm_pool.proofs.LoadLemmas.{contents_absent, held_size}
+use Rattle.warm_pool.proofs.PinLemmas.{placed_there}
 use Rattle.warm_pool.proofs.UnchangedLemmas.{unwritten}
 use Rattle.warm_pool.proofs.CallLemmas.{same_none}
-use Rattle.warm_pool.proofs.WriteBacks.{cleans_view}
+use Rattle.warm_pool.proofs.WriteBackLemmas.{cleans_view}
 use Rattle.warm_pool.proofs.FlushLemmas.{if_err}
 use Rattle.warm_pool.proofs.LendingLemmas.{refilled_whole, lent_page}
-use Rattle.warm_pool.proofs.PoolSteps.{some_page}
+use Rattle.warm_pool.proofs.FrameChoiceLemmas.{some_page}
 
 -- Zeros in place of what was loaded
 

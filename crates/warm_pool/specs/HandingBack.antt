@@ -4,8 +4,8 @@ use Rattle.warm_devices.specs.Device.{DeviceState, SameShape, page_at}
 use Rattle.warm_pool.specs.State.{PoolState, nth_device}
 use Rattle.warm_pool.specs.View.{contents_at, view_of}
 
--- This is device dev of the pool. Nothing of it is unflushed, and where it is honest it has the
--- bytes that the pool showed of each of its pages. No call of it failed meanwhile.
+-- This is device dev of the pool. Nothing of it is unflushed, and if it is honest it has the bytes
+-- that the pool showed of each of its pages. No call of it failed meanwhile.
 pub record HandsBackOne (s : PoolState) (dev : ℕ) (device : DeviceState) : Type 0 where
   pub flushed : device.waiting ≡ false
   pub shape : SameShape (nth_device s.devices dev) device

@@ -48,14 +48,13 @@ abbrev pub PinAddsPins : Type 0
 PinAddsPins = (old new : PoolView) (p : PageId) (slot : Slot) → AddsFix old p slot new
     → AddsPins old new
 
--- the victim is still the victim, and no other page is, where pins were added but none to it
+-- the victim is still the victim, and no other page is, if pins were added but none to it
 abbrev pub MorePinsKeepVictim : Type 0
 MorePinsKeepVictim = (S : ReferenceSet) (old new : PoolView) (p : PageId) → AddsPins old new
     → Contains (unfixed_pages new) p → IsVictim S (unfixed_pages old) (Some p)
     → (q : Option PageId) → IsVictim S (unfixed_pages new) q ↔ (q ≡ Some p)
 
--- the frame into which a page is loaded is still the same, where pins were added but none to its
--- page
+-- the frame into which a page is loaded is still the same, if pins were added but none to its page
 abbrev pub MorePinsKeepFrame : Type 0
 MorePinsKeepFrame = (h : HistoryView) (old new : PoolView) (i : ℕ) → AddsPins old new
     → (frame_at new i).fixes ≡ 0 → IsFrameToLoad h old (Some i) → IsFrameToLoad h new (Some i)
@@ -69,7 +68,7 @@ pub record GoAlike (old : PoolView) (slot : Slot) (v : PoolView) (other : Slot)
   pub contents : (q : PageId) → HasPage old q → IsTrue (device_at old q.dev).honest
       → contents_at w q ≡ contents_at v q
 
--- two pins of a page go alike, also where one reads the page and the other is given its bytes
+-- two pins of a page go alike, even if one reads the page and the other is given its bytes
 abbrev pub PinsGoAlike : Type 0
 PinsGoAlike = (s : PoolState) (h : HistoryView) (p : PageId) (slot other : Slot) (v w : PoolView)
     → IsPool s → Pinned h (view_of s) p slot v → Pinned h (view_of s) p other w

@@ -42,8 +42,8 @@ pub record IsVictimFrame (h : HistoryView) (v : PoolView) (i : ℕ) : Type 0 whe
   pub unfixed : (frame_at v i).fixes ≡ 0
   pub victim : IsVictim (references_of h) (unfixed_pages v) (Some page)
 
--- the frame into which a page is loaded: the first free frame, else that of the victim; none where
--- all pages are pinned
+-- the frame into which a page is loaded: the first free frame, else that of the victim; none if all
+-- pages are pinned
 abbrev pub IsFrameToLoad : HistoryView → PoolView → Option ℕ → Type 0
 IsFrameToLoad h v None = HasNoFreeFrame v × (unfixed_pages v ≡ [])
 IsFrameToLoad h v (Some i) = IsLeastFree v i ⊎ IsVictimFrame h v i
@@ -102,9 +102,9 @@ Pinned h old p slot new = HasPage old p × (AddsFix old p slot new ⊎ PutsIn h 
 abbrev pub Loaded : HistoryView → PoolView → PageId → Slot → PoolView → Type 0
 Loaded h old p slot new = HasPage old p × (StaysIn old p slot new ⊎ PutsIn h old p 0 slot new)
 
--- The page that was evicted is the one that was resident and is in no frame now; none where each
--- page that was resident still is. No page is evicted for a resident one, and for another one only
--- the page in the slot's frame is.
+-- The page that was evicted is the one that was resident and is in no frame now; none if each page
+-- that was resident still is. No page is evicted for a resident one, and for another one only the
+-- page in the slot's frame is.
 pub record IsPlaced (old : PoolView) (p : PageId) (placed : Placed) (new : PoolView) : Type 0 where
   pub left : (q : PageId) → (placed.evicted ≡ Some q) ↔ (IsResident old q × IsAbsent new q)
   pub resident : IsResident old p → placed.evicted ≡ None
@@ -185,7 +185,7 @@ pub record IsUnwritten (h : HistoryView) (old : PoolState) (before : List Device
   pub unflushed : FlushesNone old.devices new.devices
 
 -- The devices after a refused pin or load. A page is read, once, before the victim is written:
--- where the read fails, a failure is counted, and nothing else has changed.
+-- if the read fails, a failure is counted, and nothing else has changed.
 abbrev pub LeavesDevices : HistoryView → PoolState → PageId → PoolFault → PoolState → Type 0
 LeavesDevices h old p ReadFault new = new.devices ≡ failed_at p.dev old.devices
 LeavesDevices h old p WriteBack new = IsUnwritten h old (read_at p.dev old.devices) new

@@ -60,7 +60,7 @@ abbrev pub bytes_in : List FrameState → PageId → List ℕ → List ℕ
 bytes_in [] p others = others
 bytes_in (f ∷ fs) p others = if is_page p f.page then f.bytes else bytes_in fs p others
 
--- the bytes of a page on its device, where the device is honest
+-- the bytes of a page on its device, if the device is honest
 abbrev pub stored : List DeviceState → PageId → List ℕ
 stored devices p =
     if (nth_device devices p.dev).honest then page_at (nth_device devices p.dev).contents p.no

@@ -42,7 +42,7 @@ pub record KeptDevices (frames : List FrameState) (old new : List DeviceState) :
   pub clean : (i : ℕ) (p : PageId) → (nth_frame frames i).page ≡ Some p
       → (nth_frame frames i).dirty ≡ false → stored new p ≡ stored old p
 
--- where the frame is dirty, the device of its page is unflushed
+-- if the frame is dirty, the device of its page is unflushed
 abbrev pub WaitsFor : PoolState → ℕ → List DeviceState → Type 0
 WaitsFor old i devices =
     (nth_frame old.frames i).dirty ≡ true → (p : PageId) → (nth_frame old.frames i).page ≡ Some p

@@ -29,7 +29,7 @@ pub record IsDirtyIn (s : PoolState) (page : PageId) (frame : ℕ) : Type 0 wher
 abbrev pub IsDirty : PoolState → PageId → Type 0
 IsDirty s page = (frame : ℕ) × IsDirtyIn s page frame
 
--- the page in a frame, where it is dirty
+-- the page in a frame, if it is dirty
 abbrev pub IsDirtyPage : PoolState → ℕ → Option PageId → Type 0
 IsDirtyPage s frame (Some page) = IsDirtyIn s page frame
 IsDirtyPage s frame None = (nth_frame s.frames frame).dirty ≡ false
@@ -39,7 +39,7 @@ abbrev pub NoneDirty : List FrameState → ℕ → ℕ → Type 0
 NoneDirty frames from upto =
     (i : ℕ) → from ≤ i → i < upto → (nth_frame frames i).dirty ≡ false
 
--- the first dirty frame from a number on, and its page; none where no frame from there on is dirty
+-- the first dirty frame from a number on, and its page; none if no frame from there on is dirty
 abbrev pub IsNextDirty : PoolState → ℕ → Option DirtyFrame → Type 0
 IsNextDirty s from (Some next) = (from ≤ next.frame) × NoneDirty s.frames from next.frame
     × IsDirtyIn s next.page next.frame
@@ -48,8 +48,8 @@ IsNextDirty s from None = NoneDirty s.frames from (length s.frames)
 -- Some of them
 
 -- The pages of the first frames, up to one, were written back, and nothing has changed for a
--- caller. Of these frames at most `limit` were dirty: exactly so many, unless these are all frames.
--- No device was flushed.
+-- caller. Of these frames at most `limit` were dirty: exactly this many, unless these are all
+-- frames. No device was flushed.
 pub record CleansFirst (limit : ℕ) (old new : PoolState) : Type 0 where
   pub upto : ℕ
   pub within : upto ≤ length old.frames
@@ -77,7 +77,7 @@ pub record SomeFails (limit : ℕ) (old new : PoolState) : Type 0 where
   pub fails : FailsAt (view_of old) page.dev (view_of new)
   pub unflushed : FlushesNone old.devices new.devices
 
--- how many more dirty pages may be written, after one frame; none where no more may
+-- how many more dirty pages may be written, after one frame; none if no more may
 abbrev pub room_after : Bool → ℕ → Option ℕ
 room_after dirty room = if dirty then (if room == 0 then None else Some (room - 1)) else Some room
 
@@ -107,7 +107,7 @@ abbrev pub IsNotDirty : PoolState → PageId → Type 0
 IsNotDirty s page = (frame : ℕ) → (nth_frame s.frames frame).page ≡ Some page
     → (nth_frame s.frames frame).dirty ≡ false
 
--- whether the page was written: it was where it was dirty, and otherwise nothing has changed
+-- whether the page was written: it was if it was dirty; otherwise nothing has changed
 abbrev pub WritesBackPage : PoolState → PageId → Bool → PoolState → Type 0
 WritesBackPage old page true new = CleansPage old page new
 WritesBackPage old page false new = IsNotDirty old page × (new ≡ old)

@@ -40,7 +40,7 @@ impl<D: PageDevice> Pool<D> {
     /// Writes back all pages as [`Pool::write_back_all`] does, and then evicts every page.
     ///
     /// # Errors
-    /// `Fixed` where a page is pinned, which changes nothing; otherwise `Fault`, as for
+    /// `Fixed` if a page is pinned, which changes nothing; otherwise `Fault`, as for
     /// [`Pool::write_back_all`].
     pub fn empty(&mut self) -> Result<(), PoolFault>
         ensures ranked { KeepsRanks self.old self.new }
@@ -82,7 +82,7 @@ impl<D: PageDevice> Pool<D> {
         Ok(())
     }
 
-    // Writes back all pages and flushes all devices, where no page is pinned.
+    // Writes back all pages and flushes all devices, if no page is pinned.
     fn write_back_unpinned(&mut self) -> Result<(), PoolFault>
         ensures unfixed { OnOk result (AreUnfixed All self.old.frames) }
         ensures down { OnOk result (WritesBackAll All self.old self.new) }

@@ -15,7 +15,7 @@ impl<D: PageDevice> Pool<D> {
         self.tally.counts()
     }
 
-    /// The call of a device that failed last; `None` where none has failed since the pool was made.
+    /// The call of a device that failed last; `None` if none has failed since the pool was made.
     /// The contract doesn't say which.
     pub fn last_failure(&self) -> Option<FailedCall> {
         self.tally.last_failure()

@@ -34,9 +34,9 @@ impl<D: PageDevice> Pool<D> {
         }
     }
 
-    /// The first dirty frame with the number `from` or a higher one, and its page; `None` where
-    /// there is none, as for a `from` beyond the last frame. The cost is linear in the number of
-    /// frames that are looked at.
+    /// The first dirty frame with the number `from` or a higher one, and its page; `None` if there
+    /// is none, as for a `from` beyond the last frame. The cost is linear in the number of frames
+    /// that are looked at.
     ///
     /// A caller that begins with 0, and goes on with the number after the frame that it was given,
     /// meets each dirty page once, if no call changes the pool meanwhile.
@@ -59,7 +59,7 @@ impl<D: PageDevice> Pool<D> {
         self.frames.is_dirty(at)
     }
 
-    // The page in a frame, where it is dirty.
+    // The page in a frame, if it is dirty.
     fn dirty_page(&self, at: usize) -> Option<PageId>
         requires { at < length self.now.frames }
         ensures { IsDirtyPage self.now at result }

@@ -10,9 +10,9 @@ use crate::tally::Tally;
 use warm_devices::{DeviceFault, PageDevice};
 
 impl<D: PageDevice> Pool<D> {
-    /// Writes back the dirty pages of one device, in the order of frames, and flushes it where it
-    /// is unflushed. Other devices, and the frames of their pages, are unchanged, whether the call
-    /// is refused or not.
+    /// Writes back the dirty pages of one device, in the order of frames, and flushes it if it is
+    /// unflushed. Other devices, and the frames of their pages, are unchanged, whether the call is
+    /// refused or not.
     ///
     /// # Errors
     /// In this order; each leaves pages, pin counts and contents unchanged.
@@ -48,7 +48,7 @@ pub(crate) fn flush_all<D: PageDevice>(
     Ok(())
 }
 
-/// Flushes one of the devices, where it is unflushed.
+/// Flushes one of the devices, if it is unflushed.
 pub(crate) fn flush_device<D: PageDevice>(
     devices: &mut Vec<D>,
     tally: &mut Tally,

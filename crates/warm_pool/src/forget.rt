@@ -78,7 +78,7 @@ fn clean_selected(frames: &mut Frames, which: Devices)
     }
 }
 
-// Marks the page of a frame as clean, where it is selected.
+// Marks the page of a frame as clean, if it is selected.
 fn clean_one(frames: &mut Frames, at: usize, which: Devices)
     requires { at < length frames.old.frames }
     ensures { frames.new ≡ changed_at frames.old at (clean_if which) }

@@ -28,9 +28,8 @@ pub fn more_pins_keep_victim()
     ensures frame { MorePinsKeepFrame }
 {}
 
-/// A page stays in its frame while it is resident, whatever is called: where it is resident before
-/// and after a call, it is in the same frame, of the same generation. So its bytes stay where they
-/// are.
+/// A page stays in its frame while it is resident, whatever is called: if it is resident before and
+/// after a call, it is in the same frame, of the same generation. So its bytes stay where they are.
 pub fn resident_pages_stay()
     ensures pins { PinsKeepPlaces }
     ensures unpins { UnpinsKeepPlaces }
@@ -38,7 +37,7 @@ pub fn resident_pages_stay()
     ensures leaving { LeavingKeepsPlaces }
 {}
 
-/// Two pins of a page, of the same pool, go alike, also where one is a [`crate::Pool::pin`] and the
+/// Two pins of a page, of the same pool, go alike, even if one is a [`crate::Pool::pin`] and the
 /// other a [`crate::Pool::pin_filled`]: they give the same slot, each frame has the same page,
 /// generation and pin count afterwards, and each page of an honest device the same bytes.
 pub fn pins_go_alike()

@@ -1,5 +1,5 @@
 //! Lending the bytes of a page, to be written to; and of a resident page, which need not be pinned
-//! where nobody else has the pool.
+//! if nobody else has the pool.
 ghost use Rattle.std.specs.Prelude.{◌≡◌, IfSome};
 ghost use Rattle.std.specs.Borrow.{sem};
 ghost use Rattle.warm_pool.specs.View.{view_of, Holds};
@@ -15,7 +15,7 @@ use warm_stamps::PageId;
 
 impl<D: PageDevice> Pool<D> {
     /// All bytes of the slot's page, to be written to. Nothing is copied. The page becomes dirty,
-    /// even where nothing is written: it is written back before it is evicted.
+    /// even if nothing is written: it is written back before it is evicted.
     ///
     /// What the bytes are when they are given back is the page's content. That is a write of all
     /// bytes of the page: `laws::lent_page_is_written` says of it what [`Pool::write`] ensures.
@@ -28,7 +28,7 @@ impl<D: PageDevice> Pool<D> {
     }
 
     /// Looks a page up, for [`Pool::resident_bytes`]: the slot that a pin of the page would give.
-    /// `None` where the page isn't resident, or has as many pins as can be counted. It counts as a
+    /// `None` if the page isn't resident, or has as many pins as can be counted. It counts as a
     /// hit, as that pin would.
     ///
     /// Who has the pool to himself while he reads the page needs no pin: nothing can evict the

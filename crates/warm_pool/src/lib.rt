@@ -2,7 +2,7 @@
 //! when another is loaded.
 //!
 //! A page is loaded into a frame by [`Pool::pin`] or [`Pool::load`], and is evicted only for
-//! another page, or where the pool is emptied or its device replaced. The page that is evicted is
+//! another page, or when the pool is emptied or its device replaced. The page that is evicted is
 //! the victim: of the unpinned resident pages, the one of the greatest backward 2-distance (O'Neil,
 //! O'Neil, Weikum, "The LRU-K Page Replacement Algorithm For Database Disk Buffering", SIGMOD
 //! 1993), as a history ranks them. A dirty page is written back to its device before it is evicted.

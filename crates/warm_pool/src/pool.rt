@@ -40,8 +40,8 @@ use warm_stamps::PageId;
 ///
 /// Contracts see a pool as plain data that always satisfies the invariant of pools (`IsPool`:
 /// [`Pool::prove_is_pool`]). What a caller sees is its `view_of`. A pool is *ranked by* a history
-/// where the rank of each resident page is the one that the history gives it. A pool without a page
-/// is ranked by every history.
+/// if the rank of each resident page is the one that the history gives it. A pool without a page is
+/// ranked by every history.
 ///
 /// A pool that is dropped settles its devices by their own drops, but loses the contents of its
 /// dirty frames: close it instead.
@@ -105,9 +105,9 @@ impl<D: PageDevice> Pool<D> {
     /// There may be at most [`MAX_DEVICES`] devices.
     ///
     /// # Errors
-    /// `BadFrames` where `frames` is outside 1 to [`warm_rank::MAX_FRAMES`]; else `SizeDiffers`
-    /// where `page_size` is outside 1 to [`MAX_PAGE_SIZE`], or is not that of each device; else
-    /// `Memory` where an allocation fails. Each gives the devices back.
+    /// `BadFrames` if `frames` is outside 1 to [`warm_rank::MAX_FRAMES`]; else `SizeDiffers` if
+    /// `page_size` is outside 1 to [`MAX_PAGE_SIZE`], or is not that of each device; else `Memory`
+    /// if an allocation fails. Each gives the devices back.
     pub fn new(
         alloc: Global,
         frames: usize,
@@ -181,7 +181,7 @@ impl<D: PageDevice> Pool<D> {
         self.frames.generation(at) == slot.generation && self.frames.fixes(at) > 0
     }
 
-    /// Adds a pin to a page, and loads the page where it isn't resident: into the first free frame,
+    /// Adds a pin to a page, and loads the page if it isn't resident: into the first free frame,
     /// else into that of the victim. A pinned page isn't evicted. A loaded page is clean. No other
     /// frame changes, and no device changes unless the victim is dirty: it is written back to its
     /// device, which is then unflushed.
@@ -224,7 +224,7 @@ impl<D: PageDevice> Pool<D> {
         }
     }
 
-    /// The slot of a resident page that can take one more pin, for [`Pool::pin_again`]. `None` where
+    /// The slot of a resident page that can take one more pin, for [`Pool::pin_again`]. `None` if
     /// the page isn't resident, or has as many pins as can be counted.
     ///
     /// Most pins are of such pages. This way to pin them has no refusal and loads nothing, so a
@@ -294,7 +294,7 @@ impl<D: PageDevice> Pool<D> {
     }
 
     /// The page that would be evicted next, as a history ranks the pool: of the unpinned resident
-    /// pages, the one of the greatest backward 2-distance; `None` where there is none. The contract
+    /// pages, the one of the greatest backward 2-distance; `None` if there is none. The contract
     /// says nothing of a pool that no history ranks, as [`Pool::refresh`] may leave it.
     ///
     /// Pins, and ranks that have risen since, are looked at only here and as a page is loaded: so
@@ -336,7 +336,7 @@ impl<D: PageDevice> Pool<D> {
     /// Reads bytes of the slot's page, from `at` on, into the whole of `into`.
     ///
     /// # Errors
-    /// `OutOfPage` where they reach beyond the end of the page; `into` is unchanged.
+    /// `OutOfPage` if they reach beyond the end of the page; `into` is unchanged.
     pub fn read(&self, slot: Slot, at: usize, into: &mut [u8]) -> Result<(), PoolFault>
         requires holds { Holds (view_of self.now) slot }
         ensures done { OnOk result (CopiesBytes (view_of self.now) slot at into.old into.new) }
@@ -350,11 +350,11 @@ impl<D: PageDevice> Pool<D> {
         Ok(())
     }
 
-    /// Writes bytes into the slot's page, from `at` on. The page becomes dirty, even where no byte
+    /// Writes bytes into the slot's page, from `at` on. The page becomes dirty, even if no byte
     /// differs: it is written back before it is evicted.
     ///
     /// # Errors
-    /// `OutOfPage` where they reach beyond the end of the page; nothing is changed.
+    /// `OutOfPage` if they reach beyond the end of the page; nothing is changed.
     pub fn write(&mut self, slot: Slot, at: usize, bytes: &[u8]) -> Result<(), PoolFault>
         requires holds { Holds (view_of self.old) slot }
         ensures ranked { KeepsRanks self.old self.new }
@@ -400,7 +400,7 @@ impl<D: PageDevice> Pool<D> {
         self.update_rank(history, page);
     }
 
-    // Updates the rank of a page, where it is resident.
+    // Updates the rank of a page, if it is resident.
     fn update_rank(&mut self, history: &History, page: PageId)
         ensures same { view_of self.new ≡ view_of self.old }
         ensures kept { KeepsBytes self.old self.new }

@@ -66,7 +66,7 @@ impl<D: PageDevice> Pool<D> {
         Ok(())
     }
 
-    // Writes back the pages of a device and flushes it, where a device with pages of this size may
+    // Writes back the pages of a device and flushes it, if a device with pages of this size may
     // replace it.
     fn prepare_retire(&mut self, dev: u16, page_size: usize) -> Result<(), PoolFault>
         ensures way { OnOk result (PreparesRetire self.old dev page_size self.new) }

@@ -19,7 +19,7 @@ pub struct Slot {
 pub struct Placed {
     /// The slot of the page.
     pub slot: Slot,
-    /// The page that was in the slot's frame before, and is in no frame now; `None` where the page
-    /// was resident, or was loaded into a frame without a page.
+    /// The page that was in the slot's frame before, and is in no frame now; `None` if the page was
+    /// resident, or was loaded into a frame without a page.
     pub evicted: Option<PageId>,
 }

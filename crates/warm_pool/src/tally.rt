@@ -26,7 +26,7 @@ pub struct PoolCounts {
 pub struct FailedCall {
     /// The number of the device.
     pub dev: u16,
-    /// The number of the page within the device; `None` where a flush failed.
+    /// The number of the page within the device; `None` if a flush failed.
     pub page: Option<u64>,
     /// What was done: a read, a write or a flush.
     pub what: DeviceFault,

@@ -82,7 +82,7 @@ impl<D: PageDevice> Pool<D> {
         Ok(())
     }
 
-    // Writes back the page of a frame, where it is selected.
+    // Writes back the page of a frame, if it is selected.
     pub(crate) fn clean_if(&mut self, at: usize, which: Devices) -> Result<(), DeviceFault>
         requires there { at < length self.old.frames }
         ensures down { OnOk result (WritesBackOne which self.old at self.new) }
@@ -101,7 +101,7 @@ impl<D: PageDevice> Pool<D> {
     }
 }
 
-// Writes back the page of a frame, where it is dirty.
+// Writes back the page of a frame, if it is dirty.
 //
 // Frames and devices are those of a pool. A page being loaded is already in the spare buffer, whose
 // bytes are not part of a pool's value: so this function takes the fields, to which no type

@@ -26,7 +26,7 @@ impl<D: PageDevice> Pool<D> {
     /// meanwhile.
     ///
     /// # Errors
-    /// `Fault` where a write failed. Pages, pin counts and contents are unchanged; the write-backs
+    /// `Fault` if a write failed. Pages, pin counts and contents are unchanged; the write-backs
     /// made before it stay, and all other pages are dirty as before.
     pub fn write_back_some(&mut self, limit: usize) -> Result<usize, PoolFault>
         ensures ranked { KeepsRanks self.old self.new }
@@ -37,13 +37,13 @@ impl<D: PageDevice> Pool<D> {
         Ok(self.dirty())
     }
 
-    /// Writes back one page, where it is resident and dirty, and returns whether it was; otherwise
+    /// Writes back one page, if it is resident and dirty, and returns whether it was; otherwise
     /// nothing is changed. A pinned page is written too. Its device is called once, and no other
     /// one. No device is flushed: what was written is durable only after [`Pool::flush_device`] or
     /// [`Pool::write_back_all`]. So a page cleaner writes the next victims, before a pin has to.
     ///
     /// # Errors
-    /// `Fault` where the write failed, and its device's count of failures has increased. Frames are
+    /// `Fault` if the write failed, and its device's count of failures has increased. Frames are
     /// unchanged, so the page is dirty as before.
     pub fn write_back_page(&mut self, page: PageId) -> Result<bool, PoolFault>
         ensures ranked { KeepsRanks self.old self.new }
@@ -60,7 +60,7 @@ impl<D: PageDevice> Pool<D> {
         Ok(true)
     }
 
-    // Writes back the page of a frame, where it is dirty.
+    // Writes back the page of a frame, if it is dirty.
     fn clean_at(&mut self, at: usize) -> Result<(), DeviceFault>
         requires { at < length self.old.frames }
         ensures down { OnOk result (Cleans self.old at self.new) }

@@ -29,7 +29,7 @@ impl<D: PageDevice> Pool<D> {
     /// Pins a page as [`Pool::pin`] does, and fills it with zeros. The page isn't read from its
     /// device: so this is for a page that is new, or is to be overwritten. It becomes dirty.
     ///
-    /// Where the page is resident, zeros are written to it as by [`Pool::write`].
+    /// If the page is resident, zeros are written to it as by [`Pool::write`].
     ///
     /// # Errors
     /// Those of [`Pool::pin`], in the same order and with the same effects, but `ReadFault`, which
@@ -142,7 +142,7 @@ fn clear(bytes: &mut [u8])
     bytes.copy_from_slice(zeros(size));
 }
 
-// So many zeros.
+// This many zeros.
 fn zeros(len: usize) -> &'static [u8]
     requires { len ≤ MAX_PAGE_SIZE }
     ensures { result.now ≡ replicate len 0 }

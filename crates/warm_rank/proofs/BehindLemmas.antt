@@ -14,7 +14,7 @@ use Rattle.warm_stamps.proofs.DistinctLemmas.{IsStrictOrder, by_cases}
 use Rattle.warm_rank.specs.Slots.{set_first_cmp, key_at, IsLeast}
 use Rattle.warm_rank.specs.Behind.{IsBehind, AreRepaired}
 
--- a first comparison that is not greater, where both together are less
+-- a first comparison that is not greater, if both together are less
 first_not_greater : (a b : Ordering) → ordering_then a b ≡ Less → is_gt a ≡ false
 first_not_greater Less b e = refl
 first_not_greater Equal b e = refl
@@ -52,7 +52,7 @@ module _ {K : Type 0} (cmp : K → K → Ordering) (order : IsStrictOrder cmp) w
       (λ tied. same x y tied)
       (λ more. let no : true ≡ false = sym (ap is_gt more) ∙ xy in absurd (cc))
 
-  -- where x comes before a lower bound y of z, it comes before z
+  -- if x comes before a lower bound y of z, it comes before z
   before_bound : (x y z : Option K) (rest : Ordering) → is_gt (over y z) ≡ false
       → ordering_then (over x y) rest ≡ Less → ordering_then (over x z) rest ≡ Less
   before_bound x y z rest bound first = by_cases (over y z) _
@@ -63,7 +63,7 @@ module _ {K : Type 0} (cmp : K → K → Ordering) (order : IsStrictOrder cmp) w
       (λ tied. subst (λ t. ordering_then (over x t) rest ≡ Less) (same y z tied) first)
       (λ more. let no : true ≡ false = sym (ap is_gt more) ∙ bound in absurd (cc))
 
-  -- the least slot of the contest, where its current key does not come after its key there
+  -- the least slot of the contest, if its current key does not come after its key there
   pub least_some : (tree keys : List (Option K)) (at : ℕ) → IsBehind cmp tree keys
       → IsLeast cmp tree (Some at) → is_gt (over (key_at keys at) (key_at tree at)) ≡ false
       → IsLeast cmp keys (Some at)

@@ -167,7 +167,7 @@ five_is_hottest : hottest_pages five_rose 2 ≡ page 5 ∷ page 9 ∷ []
 unfolding eviction_cmp
 five_is_hottest = refl
 
--- a listed page goes to the front, also where it is named twice
+-- a listed page goes to the front, even if it is named twice
 abbrev two_rose : ReferenceSet
 two_rose = heated ∪ set_of_list (seen 2 6 ∷ seen 2 7 ∷ [])
 

@@ -29,7 +29,7 @@ use Rattle.warm_rank.specs.Keys.{rank_key, key_cmp, ranked_page}
 use Rattle.warm_rank.specs.Relisting.{AreHottest, RaisesOnly, WereHottest, candidates, greatest_keys, is_among, keys_of_others, named_keys}
 use Rattle.warm_rank.specs.WarmUp.{IsWarmUp, entry_keys}
 use Rattle.warm_rank.proofs.KeyLemmas.{derived-key_cmp, key_order}
-use Rattle.warm_rank.proofs.Outranked.{contains_has, has_contains, same_item}
+use Rattle.warm_rank.proofs.OutrankedLemmas.{contains_has, has_contains, same_item}
 use Rattle.warm_rank.proofs.RaisedLemmas.{raises_more}
 use Rattle.warm_rank.proofs.RelistLemmas.{candidates_suffice}
 use Rattle.warm_rank.proofs.SortLemmas.{descending_reverse}
@@ -47,7 +47,7 @@ rising_from_strict (k ∷ keys) strict = (strict.0, rising_from_strict keys stri
 pub derived_ties : (j k : RankKey) → (derived.ghosts).eq j k ≡ eq_by_cmp key_cmp j k
 derived_ties j k = order.matches_eq-law j k ∙ ap is_eq (derived-key_cmp j k)
 
--- where the test of equality, E, is that of the order
+-- the same if the test of equality, E, is that of the order
 pub falling_is : (E : RankKey → RankKey → Bool) → ((j k : RankKey) → E j k ≡ eq_by_cmp key_cmp j k)
     → (keys sorted once : List RankKey) → IsPermutation keys sorted → IsSorted key_cmp sorted
     → once ≡ dedup E sorted → reverse once ≡ distinct (flip_args key_cmp) keys

@@ -22,7 +22,7 @@ use Rattle.warm_rank.specs.contracts.RankKeyOrd.TheImpl as derived
 use Rattle.warm_rank.specs.Keys.{rank_key, key_cmp, ranked_page}
 use Rattle.warm_rank.specs.Ranking.{distance_from, first, farther_cmp, older_cmp, eviction_cmp}
 use Rattle.warm_rank.specs.Laws.{KeysOrderPages}
-use Rattle.warm_rank.proofs.Counting.{IsStampOf, counts_rank, stamps_of}
+use Rattle.warm_rank.proofs.LaterCountLemmas.{IsStampOf, counts_rank, stamps_of}
 
 -- ---- keys and distances
 

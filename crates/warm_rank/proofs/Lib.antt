@@ -1,12 +1,12 @@
 pub mod BehindLemmas
-pub mod Counting
+pub mod LaterCountLemmas
 mod Examples
 pub mod KeyLemmas
 pub mod EvictionLemmas
 pub mod FallingLemmas
-pub mod LoopParts
-pub mod Outranked
-pub mod PlacesBack
+pub mod LoopPartLemmas
+pub mod OutrankedLemmas
+pub mod DistanceLemmas
 pub mod RaisedLemmas
 pub mod RelistLemmas
 pub mod SetKeyLemmas

@@ -105,7 +105,7 @@ more_stamps p ss (s ∷ more) =
 pub no_greater : (a b : ℕ) → b ≤ a → max a b ≡ a
 no_greater a b le = omega (arith, le)
 
--- the stamps of a page in both sets, where the horizon stays
+-- the stamps of a page in both sets, if the horizon stays
 hist_of_both : (S T : ReferenceSet) (p : PageId) → T.horizon ≤ S.horizon
     → hist (S ∪ T) p ≡ first_two (distinct falls (told (references S) p ++ told (references_from S.horizon T.given) p))
 hist_of_both S T p le =
@@ -160,7 +160,7 @@ raises_more named more S T one within = record {
   others_stay = λ p other. one.others_stay p (λ has. other (within p has));
 }
 
--- where both say the same of each page
+-- if both say the same of each page
 pub raises_alike : (changed : List PageId) (S T U : ReferenceSet) → RaisesOnly changed S T
     → ((p : PageId) → hist T p ≡ hist U p) → RaisesOnly changed S U
 raises_alike changed S T U one alike = record {
@@ -182,7 +182,7 @@ hottest_now h n keys whole hottest = record {
 none_changed : (p : PageId) → Contains [] p → ⊥
 none_changed p (k, lt, is) = absurd (omega arith)
 
--- and where no page has risen, the pages of the list are the hottest still
+-- and if no page has risen, the pages of the list are the hottest still
 pub hottest_still : (h : HistoryView) (n : ℕ) (keys : List RankKey) → WereHottest h n [] keys
     → IsWarmUp h n (map ranked_page keys)
 hottest_still h n keys were S stands =

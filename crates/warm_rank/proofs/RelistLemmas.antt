@@ -31,7 +31,7 @@ use Rattle.warm_rank.specs.Keys.{rank_key, key_cmp, ranked_page}
 use Rattle.warm_rank.specs.Relisting.{CandidatesSuffice, RaisesOnly, candidates, greatest_keys, hottest_keys, is_among, keys_of_others, named_keys, page_key}
 use Rattle.warm_rank.specs.WarmUp.{entry_keys}
 use Rattle.warm_rank.proofs.KeyLemmas.{key_order, page_of-rank_key}
-use Rattle.warm_rank.proofs.Outranked.{IsOutranked, contains_has, has_contains, has_back, has_either, has_filter, has_front, has_from_filter, has_take, first_of_some, same_item, taken_or_behind}
+use Rattle.warm_rank.proofs.OutrankedLemmas.{IsOutranked, contains_has, has_contains, has_back, has_either, has_filter, has_front, has_from_filter, has_take, first_of_some, same_item, taken_or_behind}
 use Rattle.warm_rank.proofs.WarmUpLemmas.{keys_of_pages}
 
 -- the hottest first

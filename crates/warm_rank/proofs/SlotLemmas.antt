@@ -33,7 +33,7 @@ key_at-keys_over S [] slot = refl
 key_at-keys_over S (page ∷ slots) zero = refl
 key_at-keys_over S (page ∷ slots) (suc slot) = key_at-keys_over S slots slot
 
--- where no slot has a key, none has a page
+-- if no slot has a key, none has a page
 none_in : (S : ReferenceSet) (slots : List (Option PageId))
     → ((slot : ℕ) → slot < length slots → key_at (keys_over S slots) slot ≡ None)
     → pages_in slots ≡ []

@@ -52,7 +52,7 @@ module _ {T : Type 0} {K : Type 0} where
   all_looked_at (one ∷ held) [] same = absurd (omega arith)
   all_looked_at (one ∷ held) (key ∷ keys) same = ap (λ rest. key_while one key ∷ rest) (all_looked_at held keys (omega arith))
 
-  -- where no slot has a key, none is cleared
+  -- if no slot has a key, none is cleared
   none_while : (one : Option T) → key_while one (let key : Option K = None in key) ≡ None
   none_while None = refl
   none_while (Some x) = refl

@@ -265,8 +265,7 @@ module _ {K : Type 0} (cmp : K → K → Ordering) where
         let low : 0 < p / 2 = omega (arith, le, is, some) in
         child_holds p path low (holds_below k (p / 2) j c (path_up (length keys + slot) p path) is some half high holds)
 
-    -- where the match at p has the winner that it had, which is not the slot, all above it stay
-    -- played
+    -- if the match at p keeps its winner, which is not the slot, all matches above it stay played
     pub stays_played : (key : Option K) (new : List ℕ) (p : ℕ) → IsOnPath (length keys + slot) p
         → get_or nodes p 0 ≢ slot → ((j : ℕ) → j < 2 * p → get_or new j 0 ≡ get_or nodes j 0)
         → HasLeaves (length (set keys slot key)) new → IsPlayedBut cmp (set keys slot key) new p
@@ -434,7 +433,7 @@ module _ {K : Type 0} (cmp : K → K → Ordering) (total : IsTotalOrder cmp) wh
       → get_or nodes 1 0 < length keys
   root_in_range keys nodes tree = let some : 0 < length keys = tree.shape.some in tree.shape.in_range 1 (omega arith)
 
-  -- the order where the first slot has no key
+  -- the order of slots of which the first has no key
   none_after : (keys : List (Option K)) (a t : ℕ) → key_at keys a ≡ None → IsNotAfter keys a t
       → key_at keys t ≡ None
   none_after keys a t none first = cases (key_at keys t) refl

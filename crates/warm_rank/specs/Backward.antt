@@ -16,8 +16,8 @@ StampsAscend rs = IsAscending (on (λ r. r.stamp) stamp_cmp) rs
 abbrev pub count_to : List Reference → PageId → ℕ
 count_to rs p = count_by (λ r. is_eq (page_cmp r.page p)) rs
 
--- the number of references after the second last one to the page p; none where fewer than two are
--- to it
+-- the number of references after the second last one to the page p; none if fewer than two are to
+-- it
 abbrev pub places_back : List Reference → PageId → Option ℕ
 places_back [] p = None
 places_back (r ∷ later) p =

@@ -12,7 +12,7 @@ pub record IsBehind {K : Type 0} (cmp : K → K → Ordering)
   pub below : (slot : ℕ)
       → is_gt (set_first_cmp cmp (key_at contest slot) (key_at current slot)) ≡ false
 
--- the keys, with this one at a slot where that is less
+-- the keys, with this one at a slot if it is less than the slot's
 abbrev pub lowered : {K : Type 0} → (K → K → Ordering) → List (Option K) → ℕ → Option K
     → List (Option K)
 lowered cmp keys slot key =

@@ -17,14 +17,14 @@ abbrev pub count_later : ReferenceSet → Stamp → ℕ
 count_later S s =
     count_by (λ r. is_lt (stamp_cmp s r.stamp)) (distinct reference_cmp (references S))
 
--- the number of references of S that are later than the second of these stamps; none where there is
--- no second
+-- the number of references of S that are later than the second of these stamps; none if there is no
+-- second
 abbrev pub distance_from : ReferenceSet → List Stamp → Option ℕ
 distance_from S [] = None
 distance_from S (last ∷ []) = None
 distance_from S (last ∷ prev ∷ older) = Some (count_later S prev)
 
--- the backward 2-distance of the page p over S, none where it is infinite
+-- the backward 2-distance of the page p over S, none if it is infinite
 abbrev pub dist : ReferenceSet → PageId → Option ℕ
 dist S p = distance_from S (stamps S p)
 
@@ -54,7 +54,7 @@ eviction_cmp S = then_cmp (on (dist S) farther_cmp) (then_cmp (on (latest S) old
 abbrev pub IsBefore : ReferenceSet → PageId → PageId → Type 0
 IsBefore S p q = eviction_cmp S p q ≡ Less
 
--- the page of U that is evicted before every other page of U; none where U is empty
+-- the page of U that is evicted before every other page of U; none if U is empty
 abbrev pub IsVictim : ReferenceSet → List PageId → Option PageId → Type 0
 IsVictim S U victim = MatchOption victim (U ≡ [])
     (λ p. Contains U p × ((q : PageId) → Contains U q → q ≢ p → IsBefore S p q))

@@ -1,4 +1,4 @@
-//! The keys that slots have now, where a contest may know older ones.
+//! The keys that slots have now. A contest may know older ones.
 ghost use Rattle.std.specs.Prelude.{◌≡◌, ◌<◌, List, Option, length};
 ghost use Rattle.warm_rank.specs.declared.RankKey.{RankKey};
 ghost use Rattle.warm_rank.specs.Slots.{key_at};

@@ -22,7 +22,7 @@ use warm_history::{Entry, PageHist};
 use warm_stamps::{PageId, ReplicaId, Stamp};
 
 // The fields of a rank, in 32 bytes without padding: a move would copy a padded value in pieces.
-// The older stamp is the only one where the page has one. A stamp that isn't known is 0.
+// The older stamp is the only one if the page has one. A stamp that isn't known is 0.
 #[derive(Debug, Clone, Copy)]
 struct Fields {
     older_time: u64,
@@ -157,8 +157,8 @@ impl FlatKey {
         }
     }
 
-    /// Whether this rank comes after another, where the older times alone decide. Their order
-    /// cannot be predicted, and this answer is computed without a branch.
+    /// Whether this rank comes after another, if the older times alone decide. Their order cannot
+    /// be predicted, and this answer is computed without a branch.
     pub(crate) fn is_after_by_time(&self, other: &FlatKey) -> Option<bool>
         ensures { IfSome result (λ is_after.
             key_cmp self.now other.now ≡ cond is_after Greater Less) }

@@ -102,8 +102,8 @@ fn key_of_referenced(page: PageId, hist: PageHist) -> RankKey
     }
 }
 
-/// Which of two pages is evicted first: `Less` where `page` is, `Greater` where `other` is, `Equal`
-/// where they are the same page. Allocation-free.
+/// Which of two pages is evicted first: `Less` if `page` is, `Greater` if `other` is, `Equal` if
+/// they are the same page. Allocation-free.
 pub fn eviction_order(history: &History, page: PageId, other: PageId) -> Ordering
     ensures { (S : ReferenceSet) → StandsFor history.now S → result ≡ eviction_cmp S page other }
 {

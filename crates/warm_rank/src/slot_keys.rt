@@ -40,7 +40,7 @@ impl SlotKeys {
     /// Slots without a key; each stores `unused`, which may be any key.
     ///
     /// # Errors
-    /// `AllocError` where their allocation fails.
+    /// `AllocError` if their allocation fails.
     pub(crate) fn new(alloc: Global, slots: usize, unused: RankKey) -> Result<SlotKeys, AllocError>
         ensures { IfOk result (λ keys. keys ≡ replicate slots None) }
     {
@@ -132,7 +132,7 @@ impl SlotKeys {
         ensures { result ≡ is_gt (slot_cmp key_cmp self.now a b) }
     {
         if !self.is_set[a] {
-            // Where a pool is emptied no slot has a key: the lesser slot comes first.
+            // When a pool is emptied, no slot has a key: the lesser slot comes first.
             return self.is_set[b] || b < a;
         }
         if let Some(is_after) = is_after_by_time(&self.is_set, &self.keys, a, b) {

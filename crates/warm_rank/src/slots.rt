@@ -43,7 +43,7 @@ impl Contest {
     /// A contest of 1 to [`MAX_FRAMES`] slots, none of which has a key.
     ///
     /// # Errors
-    /// `AllocError` where the allocation of the slots fails.
+    /// `AllocError` if the allocation of the slots fails.
     pub fn new(alloc: Global, slots: usize) -> Result<Contest, AllocError>
         requires some { 0 < slots }
         requires few { slots ≤ MAX_FRAMES }
@@ -66,8 +66,8 @@ impl Contest {
         play_above(&self.keys, &mut self.nodes, slot);
     }
 
-    /// Sets the key of a slot where this one is less than the slot's; no key is the greatest.
-    /// Allocation-free.
+    /// Sets the key of a slot if this one is less than the slot's. A missing key counts as the
+    /// greatest. Allocation-free.
     pub fn lower(&mut self, slot: usize, key: Option<RankKey>)
         requires { slot < length self.old }
         ensures { self.new ≡ lowered key_cmp self.old slot key }
@@ -106,9 +106,9 @@ impl Contest {
         play_all(&self.keys, &mut self.nodes);
     }
 
-    /// The slot of the least current key, of equal keys the lesser slot; `None` where no slot has a
+    /// The slot of the least current key, of equal keys the lesser slot; `None` if no slot has a
     /// current key. No key of the contest may come after the current one of its slot. Slots whose
-    /// keys lag are given their current keys as they come first, or all at once where more than a
+    /// keys lag are given their current keys as they come first, or all at once if more than a
     /// sixteenth of them do: so no call takes longer than a few plays of all matches.
     /// Allocation-free.
     pub fn settle<C: CurrentKeys>(&mut self, current: &C) -> Option<usize>
@@ -140,7 +140,7 @@ impl Contest {
         play_all(&self.keys, &mut self.nodes)
     }
 
-    /// The slot of the least key, of equal keys the lesser slot; `None` where no slot has a key.
+    /// The slot of the least key, of equal keys the lesser slot; `None` if no slot has a key.
     /// Allocation-free.
     pub fn least(&self) -> Option<usize>
         ensures { IsLeast key_cmp self.now result }

@@ -18,12 +18,12 @@ use warm_history::{Entry, History, Unordered};
 use warm_stamps::PageId;
 
 /// The warm-up list: the `n` pages of a history that are evicted last, the hottest first; all pages
-/// where it has fewer.
+/// if it has fewer.
 ///
 /// Time grows with the number of pages, and with `n log n`.
 ///
 /// # Errors
-/// `AllocError` where the allocation of a key for each page, or of the list, fails.
+/// `AllocError` if the allocation of a key for each page, or of the list, fails.
 pub fn warm_list(alloc: Global, history: &History, n: usize) -> Result<Vec<PageId>, AllocError>
     ensures { IfOk result (λ pages. IsWarmUp history.now n pages.items) }
 {
@@ -48,12 +48,12 @@ impl Model for HotPages {
 }
 
 impl HotPages {
-    /// The `n` hottest pages of a history, or all where it has fewer.
+    /// The `n` hottest pages of a history, or all if it has fewer.
     ///
     /// Time grows with the number of pages, and with `n log n`.
     ///
     /// # Errors
-    /// `AllocError` where the allocation of a key for each page, or of the list, fails.
+    /// `AllocError` if the allocation of a key for each page, or of the list, fails.
     pub fn of(alloc: Global, history: &History, n: usize) -> Result<HotPages, AllocError>
         ensures { IfOk result (λ hot. AreHottest history.now n hot) }
     {
@@ -69,8 +69,8 @@ impl HotPages {
     /// for `c` changed pages of `p` in all, time grows with `(n + c) log c` and `c log p`.
     ///
     /// # Errors
-    /// `AllocError` where an allocation fails: lists of the changed pages, and of the keys of all
-    /// that may be hottest, and room in which to sort these.
+    /// `AllocError` if an allocation fails: lists of the changed pages, and of the keys of all that
+    /// may be hottest, and room in which to sort these.
     pub fn relisted(
         &self,
         alloc: Global,
@@ -135,8 +135,8 @@ fn keys_of_entries(
     Ok(keys)
 }
 
-// The keys of the hottest pages, from the keys of a history's entries, in any order. Where fewer
-// than all are requested, the rest is partitioned off first and never sorted.
+// The keys of the hottest pages, from the keys of a history's entries, in any order. If fewer than
+// all are requested, the rest is partitioned off first and never sorted.
 fn hottest_keys(alloc: Global, keys: &mut [FlatKey], n: usize) -> Result<Vec<FlatKey>, AllocError>
     ensures { IfOk result (λ hot. AreHottestOfKeys keys.old n hot.items) }
 {
@@ -231,7 +231,7 @@ fn add_named(keys: &mut Vec<FlatKey>, history: &History, pages: &[PageId]) -> Re
     Ok(())
 }
 
-// Adds the key of a page, where the history knows it.
+// Adds the key of a page, if the history knows it.
 fn push_named(keys: &mut Vec<FlatKey>, history: &History, page: PageId) -> Result<(), AllocError>
     requires { IsHistory history.now }
     ensures { OnOk result (keys.new.items

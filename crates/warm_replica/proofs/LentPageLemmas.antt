@@ -4,7 +4,7 @@ use Rattle.std.proofs.lemmas.List.{take_all}
 use Rattle.warm_pool.specs.declared.slot.Slot.{Slot}
 use Rattle.warm_pool.specs.PageBytes.{IsLent}
 use Rattle.warm_pool.specs.View.{view_of, Holds}
-use Rattle.warm_pool.proofs.Writes.{read_lent}
+use Rattle.warm_pool.proofs.WriteLemmas.{read_lent}
 use Rattle.warm_gossip.specs.State.{NodeState}
 use Rattle.warm_replica.specs.LentPages.{SlotShown}
 

@@ -5,8 +5,8 @@ use Rattle.std.specs.Iterator.{Yields}
 use Rattle.warm_machine.specs.declared.operation.Operation.{Operation}
 use Rattle.warm_turn.specs.declared.table.View.{View}
 use Rattle.warm_machine.specs.Runs.{operation}
-use Rattle.warm_turn.specs.CallHistories.{marked, Called, Extended}
-use Rattle.warm_turn.proofs.PassLemmas.{Extended-self, Extended-marked, Extended-trans, Extended-called}
+use Rattle.warm_turn.specs.CallHistories.{as_spent, Called, Extended}
+use Rattle.warm_turn.proofs.PassLemmas.{Extended-self, Extended-spent, Extended-trans, Extended-called}
 use Rattle.warm_frames.specs.declared.message.Message.{Message}
 use Rattle.warm_frames.specs.Encoding.{Encodes}
 use Rattle.warm_frames.specs.declared.fault.FrameFault.{FrameFault}
@@ -159,14 +159,14 @@ module _ {X : Type 0} (keeps : Bool) where
   }
 
   pub heard_unserved : (v w : View X Call Reply) (a : List AddressedBytes) (bytes : List ℕ)
-      (message : Message) → Encodes bytes message → w ≡ marked v
+      (message : Message) → Encodes bytes message → w ≡ as_spent v
       → Heard keeps v a (Bytes bytes ∷ []) refused_one w a
   heard_unserved v w a bytes message spells is =
       let spent : w.found_last ≡ true = ap (λ (u : View X Call Reply). u.found_last) is in
       record {
         outcomes = unserved ∷ [];
         each = (true, (refl, (message, spells)), spent);
-        calls = Extended-marked v w is;
+        calls = Extended-spent v w is;
         joined = refl;
         refused = refl;
         posts = posts_none keeps a;
@@ -179,7 +179,7 @@ other_reply : (message : Message) (reply : Reply) → ((x : List Message) → re
 other_reply message (Answers messages) not = absurd (not messages refl)
 other_reply message reply not = (refl, refl, refl)
 
--- bytes that were not decoded spell a message only where that reserves capacity
+-- bytes that were not decoded spell a message only if that reserves capacity
 pub no_frame : (r : Result Message FrameFault) (bytes : List ℕ) → ((x : Message) → r ≡ Ok x → ⊥)
     → ((message : Message) → Encodes bytes message
     → GivesReading r (Ok message) (reserved_by bytes))
@@ -310,7 +310,7 @@ module _ {I : Type 0} (gives : I → Option Mail → I → Type 0) (mail rest : 
       → Took gives mail stops turns items
   took_all few last none = record { rest = rest; given = given; bound = few; missing = missing; ends = inr (inr (last, none)) }
 
--- where each item costs one of the rest, at most as many items are taken as were left
+-- if each item costs one of the rest, at most as many items are taken as were left
 pub few_items : {S : Type 0} (left : S → ℕ) (s : S) (items : List Mail) (t : S)
     → Yields (λ (a : S) (item : Option Mail) (b : S). IfSome item (λ x. left a ≡ left b + 1)) s
     items t → length items ≤ left s

@@ -39,7 +39,7 @@ ended_long (run ∷ runs) = omega (arith, length-append (replicate run.touched T
 pub replies_long : (runs : List Run) (n : ℕ) → length runs + n ≤ length (replies_of runs n)
 replies_long runs n = omega (arith, ended_long runs, length-append (ended runs) (replicate n Touched), length-replicate n Touched)
 
--- where there is capacity for all replies, those of the first runs leave some for the next run's
+-- if there is capacity for all replies, those of the first runs leave some for the next run's
 pub run_fits : (all xs rest : List Run) (run : Run) (n capacity : ℕ) → xs ++ run ∷ rest ≡ all
     → length (replies_of all n) ≤ capacity → length (ended xs) + run.touched + 1 ≤ capacity
 run_fits all xs rest run n capacity is fits = omega (
@@ -53,7 +53,7 @@ run_fits all xs rest run n capacity is fits = omega (
   fits,
 )
 
--- the replies that end runs are of steps that were taken where all replies are
+-- the replies that end runs are of steps that were taken, if all replies are
 ended_taken : (runs : List Run) → All (λ run. IsTaken run.reply) runs → All IsTaken (ended runs)
 ended_taken [] h = All-nil IsTaken
 ended_taken (run ∷ runs) h =

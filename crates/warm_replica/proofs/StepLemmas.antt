@@ -6,8 +6,8 @@ use Rattle.warm_refbuffer.specs.declared.Full.{Full as Back}
 use Rattle.warm_refbuffer.specs.Buffered.{Buffered}
 use Rattle.warm_turn.specs.declared.table.View.{View}
 use Rattle.warm_machine.specs.Runs.{operation}
-use Rattle.warm_turn.specs.CallHistories.{Called, Extended, PassView, marked}
-use Rattle.warm_turn.proofs.PassLemmas.{Extended-self, Extended-marked, Extended-called}
+use Rattle.warm_turn.specs.CallHistories.{Called, Extended, PassView, as_spent}
+use Rattle.warm_turn.proofs.PassLemmas.{Extended-self, Extended-spent, Extended-called}
 use Rattle.warm_gossip.specs.declared.call.Call.{Call}
 use Rattle.warm_gossip.specs.declared.call.Call.TheVariants.{Absorb}
 use Rattle.warm_gossip.specs.declared.call.Reply.{Reply}
@@ -38,7 +38,7 @@ one_way (Ok z) x y is not = let never : Ok z ≡ Err x = is in absurd (cc)
 one_way (Err z) x y one two = let p : Err z ≡ Err x = one in let q : Err z ≡ Err y = two in cc
 
 module _ {X : Type 0} (v w : Working X Call Reply) (step : Step) where
-  -- what the worker's buffer and mark were and are, where the step was answered so
+  -- what the worker's buffer and mark were and are, if the step was answered so
   abbrev GaveTo : StepReply → Calls → Step → Type 0
   GaveTo reply made s = Gave v.buffer.capacity v.pass.view.number v.pass.view.found_last v.buffer.refs s reply w.pass.view.found_last w.buffer.refs made
 
@@ -48,7 +48,7 @@ module _ {X : Type 0} (v w : Working X Call Reply) (step : Step) where
   mark_stays : w.pass ≡ v.pass → w.pass.view.found_last ≡ v.pass.view.found_last
   mark_stays same = ap (λ (p : PassView X Call Reply). p.view.found_last) same
 
-  mark_stands : w.pass.view ≡ marked v.pass.view → w.pass.view.found_last ≡ true
+  mark_stands : w.pass.view ≡ as_spent v.pass.view → w.pass.view.found_last ≡ true
   mark_stands spent = ap (λ (u : View X Call Reply). u.found_last) spent
 
   pub touched : (r : Reference) (result : Result (Unit {0}) Back) (u : Unit {0}) → step ≡ Touch r
@@ -99,7 +99,7 @@ module _ {X : Type 0} (v w : Working X Call Reply) (step : Step) where
     [],
     subst (GaveTo (Failed TurnsSpent) []) (sym is) (mark_stands kept.1, ap (λ (b : Buffered). b.refs) kept.0, refl),
     ap (λ (b : Buffered). b.capacity) kept.0,
-    Extended-marked v.pass.view w.pass.view kept.1,
+    Extended-spent v.pass.view w.pass.view kept.1,
   )
   was_kept goes Memory is kept =
       ⊎_elim
@@ -119,10 +119,10 @@ module _ {X : Type 0} (v w : Working X Call Reply) (step : Step) where
       kept.1
 
   pub was_spent : (call : Call) → step ≡ job_step.Call call → w.buffer ≡ v.buffer
-      → w.pass.view ≡ marked v.pass.view → StepWent v step (Failed TurnsSpent) w
+      → w.pass.view ≡ as_spent v.pass.view → StepWent v step (Failed TurnsSpent) w
   was_spent call is same spent = (
     [],
     subst (GaveTo (Failed TurnsSpent) []) (sym is) (mark_stands spent, ap (λ (b : Buffered). b.refs) same, refl),
     ap (λ (b : Buffered). b.capacity) same,
-    Extended-marked v.pass.view w.pass.view spent,
+    Extended-spent v.pass.view w.pass.view spent,
   )

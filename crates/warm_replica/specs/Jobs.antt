@@ -29,9 +29,9 @@ use Rattle.warm_replica.specs.Working.{Working}
 abbrev pub Calls : Type 0
 Calls = List (Operation Call Reply)
 
--- The reply of a step, where a buffer of this capacity holds these references, and the pass of
--- number n is spent or not: whether it is spent afterwards, the buffer's contents afterwards, and the
--- calls of the pass that the step made. A spent pass is never answered again
+-- The reply of a step of a worker. Its buffer has this capacity and holds these references, and its
+-- pass of number n is spent or not: whether it is spent afterwards, the buffer's contents
+-- afterwards, and the calls of the pass that the step made. A spent pass is never answered again
 abbrev pub Gave : (capacity n : ℕ) → Bool → List Reference → Step → StepReply → Bool
     → List Reference → Calls → Type 0
 Gave capacity n spent held (Touch r) Touched after held' made = (length held < capacity)
@@ -52,9 +52,9 @@ Gave capacity n spent held (job_step.Call call) (Failed TurnsSpent) after held' 
     (after ≡ true) × (held' ≡ held) × (made ≡ [])
 Gave capacity n spent held step reply after held' made = ⊥
 
--- The replies of steps, one after another, where a buffer of this capacity holds these references:
--- whether the pass is spent afterwards, the buffer's contents afterwards, and the calls that the
--- steps made.
+-- The replies of steps of a worker, one after another. Its buffer has this capacity and holds these
+-- references: whether the pass is spent afterwards, the buffer's contents afterwards, and the calls
+-- that the steps made.
 abbrev pub AllGave : (capacity n : ℕ) → Bool → List Reference → List Step → List StepReply → Bool
     → List Reference → Calls → Type 0
 AllGave capacity n spent held [] [] after held' made = (after ≡ spent) × (held' ≡ held)

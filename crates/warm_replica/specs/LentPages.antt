@@ -2,7 +2,7 @@
 -- says of it, and what a worker has seen of it.
 use Rattle.std.specs.Prelude.{◌≡◌, ℕ, List, length, Option, Some, None}
 use Rattle.warm_turn.specs.declared.table.View.{View}
-use Rattle.warm_turn.specs.CallHistories.{Called, marked}
+use Rattle.warm_turn.specs.CallHistories.{Called, as_spent}
 use Rattle.warm_pool.specs.declared.slot.Slot.{Slot}
 use Rattle.warm_pool.specs.PageBytes.{IsLent, MakesDirty}
 use Rattle.warm_pool.specs.View.{view_of}
@@ -84,4 +84,4 @@ pub record WorkerChanges (old : NodeKnown) (slot : Slot) (so : List ℕ → List
 abbrev pub LendFails : NodeKnown → Slot → LendFault → NodeKnown → Type 0
 LendFails old slot StaleSlot new =
     Called Step old (Read slot 0 0) (Refused node_fault.StaleSlot) new
-LendFails old slot TurnsSpent new = new ≡ marked old
+LendFails old slot TurnsSpent new = new ≡ as_spent old

@@ -33,16 +33,16 @@ module _ {X : Type 0} where
   PreparedJobWent prepared replies v w =
       JobWent prepared.buffer.capacity prepared.steps.items replies.items v w
 
-  -- the pass has seen more, and holds one pass for each of the jobs, whose calls are that job's,
-  -- where all were started
+  -- the pass has seen more, and holds more passes: if all jobs were started, one for each of them,
+  -- with the calls of that job
   abbrev pub HasFanned : View X Call Reply → List PreparedJob → Result (Unit {0}) NoThread
       → List Replied → View X Call Reply → Type 0
   HasFanned v jobs result replies w =
       (more : List (EndedPass Call Reply)) × Widened v more w
       × OnOk result (Triples PreparedJobWentAs jobs replies more)
 
-  -- the pass has seen more, and holds more passes: where the result has the replies, one for each
-  -- of the jobs, whose calls are those of the job with its replies
+  -- the pass has seen more, and holds more passes: if the result has the replies, one for each of
+  -- the jobs, with the calls of that job and its replies
   abbrev pub Fanned : View X Call Reply → List PreparedJob → Result (Vec Replied) NoThread
       → View X Call Reply → Type 0
   Fanned v jobs result w =

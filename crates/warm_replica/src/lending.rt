@@ -1,4 +1,4 @@
-//! A node lends the bytes of a page that is pinned to a closure, where they lie.
+//! A node lends the bytes of a pinned page to a closure, where they lie.
 ghost use Rattle.std.specs.Prelude.{◌≡◌, length};
 ghost use Rattle.std.specs.Fn.{FnOnceReturnsAt, FnOnceReturnsAtMut};
 ghost use Rattle.warm_pool.specs.View.{view_of, Holds};

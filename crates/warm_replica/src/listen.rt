@@ -26,7 +26,7 @@ fn sender_of(message: &Message) -> ReplicaId
     }
 }
 
-// Posts one message, and counts it where it is lost.
+// Posts one message, and counts it if it is lost.
 fn post_one<P: Post>(alloc: Global, post: &mut P, to: ReplicaId, message: &Message) -> u64
     ensures posted { PostsTo P.keeps P.given to (message.now ∷ []) post.old result post.new }
     ensures bound { result ≤ 1 }

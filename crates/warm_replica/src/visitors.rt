@@ -61,7 +61,7 @@ impl<D: PageDevice + Send, T, F: FnOnce(&mut [u8]) -> T + Drop> Visit<Node<D>> f
     }
 }
 
-// Calls the closure with the bytes of the slot's page, or doesn't where the slot doesn't hold it.
+// Calls the closure with the bytes of the slot's page, or doesn't if the slot doesn't hold it.
 fn looked<D: PageDevice, T, F: FnOnce(&[u8]) -> T + Drop>(
     node: &Node<D>,
     slot: Slot,
@@ -85,7 +85,7 @@ fn looked<D: PageDevice, T, F: FnOnce(&[u8]) -> T + Drop>(
     }
 }
 
-// Calls the closure with the bytes of the slot's page, to be written to, or doesn't where the slot
+// Calls the closure with the bytes of the slot's page, to be written to, or doesn't if the slot
 // doesn't hold it.
 fn changed<D: PageDevice, T, F: FnOnce(&mut [u8]) -> T + Drop>(
     node: &mut Node<D>,

@@ -1,6 +1,6 @@
 //! A worker of a replica: a pass of its own, and a buffer of references.
 ghost use Rattle.std.specs.Prelude.{◌≡◌, ◌≤◌, ◌<◌, length, Err, IsOk, IfOk, IfErr, OnOk};
-ghost use Rattle.warm_turn.specs.CallHistories.{Called, marked};
+ghost use Rattle.warm_turn.specs.CallHistories.{Called, as_spent};
 ghost use Rattle.warm_refbuffer.specs.Buffered.{with_last};
 ghost use Rattle.warm_replica.specs.Working.{Flushes, KeepsBatch};
 
@@ -104,7 +104,7 @@ impl<M: Machine<Call = Call, Reply = Reply>> Worker<M> {
         ensures ok { IfOk result
             (λ r. Called M.goes self.old.pass.view call r self.new.pass.view) }
         ensures back { IfErr result (λ spent. spent.call ≡ call) }
-        ensures spent { IfErr result (λ _. self.new.pass.view ≡ marked self.old.pass.view) }
+        ensures spent { IfErr result (λ _. self.new.pass.view ≡ as_spent self.old.pass.view) }
     {
         replica.call(rt, &mut self.pass, call)
     }

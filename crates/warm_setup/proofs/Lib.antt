@@ -1,5 +1,5 @@
-pub mod SetupRows
-pub mod SetupDevices
-pub mod SetupSteps
-pub mod WordsAsked
-pub mod WordsFound
+pub mod Examples
+pub mod DeviceArrayLemmas
+pub mod TableWalkLemmas
+pub mod SubcommandLemmas
+pub mod SubcommandMatchLemmas

@@ -73,12 +73,12 @@ warmplay = with_subcommand with_random threads.top
 
 -- ---- the meaning of words
 
--- the number that a text spells, where it spells one up to `most`
+-- the number that a text spells, if it spells one up to `most`
 unfoldable pub number_in : ℕ → Text → Option ℕ
 number_in most text =
     if is_unsigned_in 0 most text then Some (digits_value 10 (without_leading_plus text)) else None
 
--- the number that the argument of this name has, where it has one up to `most`
+-- the number that the argument of this name has, if it has one up to `most`
 abbrev pub argument_number : ℕ → Text → List Row → Option ℕ
 argument_number most id rows = option_and_then (number_in most) (one_of id rows)
 
@@ -121,8 +121,8 @@ LacksValue words =
     × (AsksFor (codes "random") words ⊎ AsksFor (codes "threads") words)
     × (command_in words ≡ None)
 
--- A command is returned only where clap's own definition finds no fault in the words, a refusal
--- only for a fault that it finds, or for a missing number or file.
+-- A command is returned only if clap's own definition finds no fault in the words, a refusal only
+-- for a fault that it finds, or for a missing number or file.
 abbrev pub Answers : List Text → Result Cmd CmdFault → Type 0
 Answers words (Ok command) = (fault_of warmplay words ≡ []) × (Some command ≡ command_in words)
 Answers words (Err Memory) = Unit {0}

@@ -157,7 +157,7 @@ fn random_command<'a>(alloc: Global) -> Result<Command<'a>, AllocError>
     let random = Command::new(alloc, "random").about(
         "Write a schedule drawn at random, the same for the same seed",
     );
-    // Each argument is made where it is added: nothing else is dropped where an allocation fails.
+    // Each argument is made where it is added: nothing else is dropped if an allocation fails.
     let seed = number_argument(alloc, "seed", "What the schedule is drawn from", u64::MAX);
     let seeded = random.arg(seed)?;
     let events = number_argument(alloc, "events", "How many lines it has", MAX_EVENTS);

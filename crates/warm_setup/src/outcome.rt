@@ -121,7 +121,7 @@ impl<'a> ErrorLine<'a> {
         }
     }
 
-    // The same, with a number after the subject where there is one.
+    // The same, with a number after the subject if there is one.
     fn numbered(opening: &'a str, subject: &'a str, number: Option<u64>) -> ErrorLine<'a>
         ensures { result
             ≡ opening.entry.now ++ subject.entry.now ++ number_text number ++ line_end }

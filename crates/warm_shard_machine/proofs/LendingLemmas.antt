@@ -9,8 +9,8 @@ use Rattle.warm_pool.specs.Unchanged.{KeepsBytes}
 use Rattle.warm_pool.specs.Lending.{relent_pool}
 use Rattle.warm_pool.specs.State.{IsPool, PoolState}
 use Rattle.warm_pool.specs.View.{FrameView, PoolView, frame_at, view_of, Holds}
-use Rattle.warm_pool.proofs.Pins.{puts_holds}
-use Rattle.warm_pool.proofs.UndonePins.{either_first, kept_again, lent_meanwhile, pinned_once, pinned_pool, pins_once, relent_can, relent_is_pool, takes_once, undone}
+use Rattle.warm_pool.proofs.PinLemmas.{puts_holds}
+use Rattle.warm_pool.proofs.UndonePinLemmas.{either_first, kept_again, lent_meanwhile, pinned_once, pinned_pool, pins_once, relent_can, relent_is_pool, takes_once, undone}
 use Rattle.warm_gossip.specs.declared.call.Call.TheVariants.{Pin, Unpin, Write}
 use Rattle.warm_gossip.specs.declared.call.Reply.TheVariants.{Done, Pinned}
 use Rattle.warm_gossip.specs.Lending.{relent_node}

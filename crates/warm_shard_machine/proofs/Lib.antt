@@ -5,7 +5,7 @@ pub mod ReadIntoLemmas
 pub mod FilledPinLemmas
 pub mod ToldDeviceLemmas
 pub mod NodeStepLemmas
-pub mod HoldsShardLemmas
+pub mod OwnPageLemmas
 pub mod SendLemmas
 pub mod PoolPinLemmas
 pub mod ShardPinLemmas

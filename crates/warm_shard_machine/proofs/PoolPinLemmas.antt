@@ -18,7 +18,7 @@ use Rattle.warm_pool.specs.Retiring.{RetireRefused, Retired, emptied}
 use Rattle.warm_pool.specs.State.{IsPool, PoolState}
 use Rattle.warm_pool.specs.View.{FrameView, Holds, PoolView, frame_at, frame_view, view_of}
 use Rattle.warm_pool.specs.Zeroing.{PinnedZeroed}
-use Rattle.warm_pool.proofs.Bytes.{frame_seen}
+use Rattle.warm_pool.proofs.PageByteLemmas.{frame_seen}
 use Rattle.warm_gossip.specs.declared.call.Call.{Call}
 use Rattle.warm_gossip.specs.declared.call.Call.TheVariants.{Absorb, Send, Offer, Receive, Horizon, Pin, Unpin, Read, Write, Victim, WarmList, WarmStep, Restart}
 use Rattle.warm_gossip.specs.declared.call.Reply.{Reply}
@@ -45,7 +45,7 @@ pool_free s pool i page =
     let seen = frame_seen s i in
     ap (λ (f : FrameView). f.fixes) seen ∙ (pool.bare i (sym (ap (λ (f : FrameView). f.page) seen) ∙ page)).1
 
--- so many pins were given, and so many removed, and still no frame without a page is pinned
+-- this many pins were given, and this many removed, and still no frame without a page is pinned
 pub record Moves (given removed : ℕ) (v w : PoolView) : Type 0 where
   pub count : pins_in w.frames + removed ≡ pins_in v.frames + given
   pub free : IsFree w

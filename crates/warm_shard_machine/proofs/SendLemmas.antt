@@ -1,4 +1,4 @@
--- Where devices may go to another thread, so may a shard.
+-- If devices may go to another thread, so may a shard.
 use denote.RattleType.{RattleType}
 use denote.Param.Send.{IsSend, sendable}
 use Rattle.warm_devices.specs.declared.device.PageDevice.{Ghosts}

@@ -199,7 +199,7 @@ shard_moves : (o y : ShardState) (c : ShardCall) (r : ShardReply) → IsFree (vi
 shard_moves o y c Foreign free step = foreign_moves o.node y.node c free (ap (λ (s : ShardState). s.node) step.1)
 shard_moves o y c r free step = goes_moves o.node y.node c r free step.2
 
--- where no frame without a page is pinned
+-- if no frame without a page is pinned
 pub run_moves : (o z : ShardState) (log : Log) → IsFree (view_of o.node.pool)
     → Runs ShardStep o log z → LeadsTo (pool_pins o.node) log (pool_pins z.node)
 run_moves o z [] free runs = ap (λ (s : ShardState). pool_pins s.node + 0) (sym runs)

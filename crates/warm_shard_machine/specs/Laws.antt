@@ -21,7 +21,7 @@ abbrev pub Log : Type 0
 Log = List (Operation ShardCall ShardReply)
 
 -- What the node did for an operation of a shard, step by step: for a look a pin and an unpin, for a
--- change a write between them, and for either a pin where it was refused. For a call that brought a
+-- change a write between them, and for either a pin if it was refused. For a call that brought a
 -- page of another shard it did nothing.
 abbrev pub asked_steps : ℕ → Asked → ShardReply → List (Operation Work ShardReply)
 asked_steps by asked Foreign = []

@@ -41,7 +41,7 @@ pins_by calls = sum_by (λ e. pin_by e.call e.reply) calls
 abbrev pub unpins_by : Log → ℕ
 unpins_by calls = sum_by (λ e. unpin_by e.call e.reply) calls
 
--- these calls lead from so many pins to so many
+-- these calls lead from one number of pins to another
 abbrev pub LeadsTo : ℕ → Log → ℕ → Type 0
 LeadsTo before calls after = after + unpins_by calls ≡ before + pins_by calls
 

@@ -302,9 +302,9 @@ CopyStep old (Copied history) new = (history ≡ old.history) × (new ≡ old)
 CopyStep old (Refused why) new = (why ≡ Memory) × (new ≡ old)
 CopyStep old reply new = ⊥
 
--- A device was replaced with one of the state that was told, and the old one was given back in the
--- state that was told; or a pool refuses it. A call that brought no device is refused as if no memory
--- were left.
+-- A device was replaced with one in the state that the call has, and the old one was given back in
+-- the state that the reply has; or the pool refuses it. A call that brought no device is refused as
+-- if no memory were left.
 abbrev pub RetireStep : NodeState → ℕ → Tag → ShardReply → NodeState → Type 0
 RetireStep old dev told (Replaced given) new = (device : DeviceState) × (was : DeviceState)
     × IsTold told device × IsTold given was × KeepsKnown old new

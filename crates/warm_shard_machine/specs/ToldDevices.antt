@@ -3,7 +3,7 @@ use Rattle.std.specs.Prelude.{◌≡◌, ℕ, Bool, true, false, List, [], ◌�
 use Rattle.boxcar.specs.declared.tag.Tag.{Tag}
 use Rattle.warm_devices.specs.Device.{DeviceState}
 
--- a flag as a number: 1 where it is set
+-- a flag as a number: 1 if it is set
 abbrev pub bit : Bool → ℕ
 bit true = 1
 bit false = 0

@@ -23,7 +23,7 @@ impl Model for BoxedHistory {
 impl BoxedHistory {
     /// A copy of the history, in a box.
     ///
-    /// `AllocError` occurs only where an allocation fails.
+    /// `AllocError` occurs only if an allocation fails.
     pub fn copy_of(alloc: Global, history: &History) -> Result<BoxedHistory, AllocError>
         ensures { IfOk result (λ boxed. boxed ≡ history.now) }
     {

@@ -24,7 +24,7 @@ pub enum ShardCall {
         /// The entries.
         entries: Items<Entry>,
     },
-    /// Pin a page of the shard, and load it where it isn't resident.
+    /// Pin a page of the shard, and load it if it isn't resident.
     Pin(PageId),
     /// Pin a page of the shard, and fill it with zeros. It isn't read.
     PinZeroed(PageId),
@@ -62,7 +62,7 @@ pub enum ShardCall {
     WarmStep,
     /// Name the page that the next warm-up step would load.
     WarmNext,
-    /// List this many of the hottest pages of the shard, or all where there are fewer.
+    /// List this many of the hottest pages of the shard, or all if there are fewer.
     WarmList(usize),
     /// Give the digests of all buckets. Those of other shards' buckets are of no entry.
     Offer,
@@ -91,7 +91,7 @@ pub enum ShardCall {
     WritePages,
     /// Write back at most this many dirty pages of the shard. No device is flushed.
     WriteSome(usize),
-    /// Write back a page of the shard, where it is dirty. No device is flushed.
+    /// Write back a page of the shard, if it is dirty. No device is flushed.
     WritePage(PageId),
     /// Write back the dirty pages of a device of the shard, and flush it.
     FlushDevice(u16),
@@ -112,9 +112,9 @@ pub enum ShardCall {
         /// The state of the other device, which exists here only in contracts.
         device: Tag,
     },
-    /// Show the bytes of a page of the shard, and load it where it isn't resident.
+    /// Show the bytes of a page of the shard, and load it if it isn't resident.
     Look(PageId),
-    /// Let the bytes of a page of the shard be changed, and load it where it isn't resident.
+    /// Let the bytes of a page of the shard be changed, and load it if it isn't resident.
     Change(PageId),
 }
 

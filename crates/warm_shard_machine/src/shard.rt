@@ -254,7 +254,7 @@ fn write_some<D: PageDevice>(node: &mut Node<D>, limit: usize) -> Result<ShardRe
     Ok(ShardReply::Dirty(left))
 }
 
-// Writes back a page of a node, where it is dirty, and says whether it was. No device is flushed.
+// Writes back a page of a node, if it is dirty, and says whether it was. No device is flushed.
 fn write_page<D: PageDevice>(node: &mut Node<D>, page: PageId) -> Result<ShardReply, NodeFault>
     ensures { AnsweredAs node.old (WritePage page) result node.new }
 {
@@ -364,7 +364,7 @@ fn forgotten<D: PageDevice>(
     Ok(ShardReply::Done)
 }
 
-// A look by nobody: the page is loaded where it isn't resident.
+// A look by nobody: the page is loaded if it isn't resident.
 fn looked<D: PageDevice>(node: &mut Node<D>, page: PageId) -> Result<ShardReply, NodeFault>
     ensures { AnsweredAs node.old (Look page) result node.new }
 {
@@ -376,7 +376,7 @@ fn looked<D: PageDevice>(node: &mut Node<D>, page: PageId) -> Result<ShardReply,
     Ok(ShardReply::Looked { slot, bytes })
 }
 
-// A change by nobody: the page is loaded where it isn't resident, and is dirty.
+// A change by nobody: the page is loaded if it isn't resident, and is dirty.
 fn changed<D: PageDevice>(node: &mut Node<D>, page: PageId) -> Result<ShardReply, NodeFault>
     ensures { AnsweredAs node.old (Change page) result node.new }
 {

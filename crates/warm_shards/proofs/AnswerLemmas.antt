@@ -198,7 +198,7 @@ pub offer_kept : (old new : List NodeState) → SameShards old new
     → Together old Offer (Refused Memory) new
 offer_kept old new same pool = as_same old new same pool
 
--- ---- what all shards together would answer, where they are not raised
+-- ---- what all shards together would answer, if they are not raised
 
 pub first_horizon : (ns : List NodeState) (n d : NodeState) → AreShards ns → n ≡ get_or ns 0 d
     → n.history.horizon ≡ (whole ns).horizon

@@ -13,7 +13,7 @@ pub at_each : (P : ℕ → NodeState → Type 0) (ns : List NodeState) (i : ℕ)
     → P k (shard_at (set ns i m) k)
 at_each P ns i m lt new old k = changed_at P ns i m no_shard lt new old k
 
--- where each is a shard with one id and one horizon, all are the shards of a replica
+-- if each is a shard, and all have one id and one horizon, they are the shards of a replica
 pub all_shards : (number latest : ℕ) (ns : List NodeState) → IsShardCount (length ns) → 0 < length ns
     → ((i : ℕ) → i < length ns → IsShard (length ns) number latest i (shard_at ns i))
     → AreShards ns

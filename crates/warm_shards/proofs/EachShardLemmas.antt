@@ -198,7 +198,7 @@ clean_all frames n over =
     ∙ ap (λ (fs : List FrameState). map cleaned frames ++ fs) (drop_all n frames over)
     ∙ append-nil (map cleaned frames)
 
--- where as many pages may be written as there are frames, all are
+-- if as many pages may be written as there are frames, all are
 pub all_written : (limit : ℕ) (s t : PoolState) → limit ≡ length s.frames → CleansFirst limit s t
     → IsClean t
 all_written limit s t is cleans i =
@@ -220,7 +220,7 @@ all_written limit s t is cleans i =
 pub written_then : (a b c : NodeState) → IsWritten a b → ShardSettles b c → ShardSettles a c
 written_then a b c x y = (y.0 ∙ x.0, y.1)
 
--- clean frames stay clean where writing them back stops
+-- clean frames stay clean if writing back stops
 stays_clean : (frames : List FrameState) (n i : ℕ)
     → ((k : ℕ) → (nth_frame frames k).dirty ≡ false)
     → (nth_frame (cleaned_to n frames) i).dirty ≡ false
@@ -251,7 +251,7 @@ settled_fails a b c x y = (
   fails_clean b.pool c.pool x.1.clean y.1,
 )
 
--- a node without a pinned page does not restart only where a device fails
+-- a node without a pinned page restarts unless a device fails
 pub fails_only : (why : NodeFault) (n m : NodeState) → IsUnfixed (view_of n.pool)
     → Goes n Restart (Refused why) m → DevicesAfter n Restart (Refused why) m
     → (why ≡ Pool Fault) × DeviceFails n m
@@ -475,7 +475,7 @@ may_not_refuse dev from s t why may refused = refused
 from_start : (p : PageId) → IsTrue (is_from p.dev 0 (Some p))
 from_start p = rw (eq-eqb p.dev p.dev refl) (leb-zero p.no)
 
--- where no page of any device is pinned, none is
+-- if no page of any device is pinned, none is
 pub none_fixed : (s : PoolState) → IsPool s
     → ((k : ℕ) → k < length s.devices → AreUnfixedFrom (view_of s) k 0) → IsUnfixed (view_of s)
 none_fixed s pool each i = cases (nth_frame s.frames i).page refl

@@ -1,4 +1,4 @@
--- Where each shard is given its part of a set of references, all together are given the set.
+-- If each shard is given its part of a set of references, all together are given the set.
 use Rattle.std.proofs.Common.{◌≡◌, ◌⊎◌, inl, inr, ℕ, zero, suc, ◌+◌, ◌<◌, ◌≤◌, Bool, true, false, List, [], ◌∷◌, length, max, set, get_or, Result, Ok, Err, refl, sym, ap, subst, ◌∙◌, arith}
 use Rattle.std.specs.Prelude.{nat_eq, nat_lt, IfErr, OnOk}
 use Rattle.std.specs.List.{AllByRecursion}
@@ -300,7 +300,7 @@ first_raised old mid new time S at raised (k, lt, part, some) =
           ∙ ap (λ (count : ℕ). history (references_of (whole old) ∪ of_first_shards count k S)) long,
     )
 
--- where all shards have the horizon of S and then S is given, it is given
+-- to raise all shards to the horizon of S and then give S is to give S
 pub raised_gives : (old mid new : List NodeState) (time : ℕ) (S : ReferenceSet)
     (result : Result Unit NodeFault) → time ≡ S.horizon → AreGiven (at_horizon time) old mid
     → Gives S mid result new → Gives S old result new

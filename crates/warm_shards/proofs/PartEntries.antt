@@ -44,7 +44,7 @@ stamps_some : (h : PageHist) → (s : Stamp) × (ss : List Stamp) × (hist_stamp
 stamps_some (Once s) = (s, [], refl)
 stamps_some (Twice two) = (two.last, two.prev ∷ [], refl)
 
--- so where there are entries, there are references
+-- so if there are entries, there are references
 pub held_some : (es : List Entry) → (length es ≡ 0 → ⊥) → list_references_of es ≢ []
 held_some [] some none = some refl
 held_some (e ∷ es) some none =

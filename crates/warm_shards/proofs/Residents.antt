@@ -24,7 +24,7 @@ pub is_resident : (v : PoolView) (k : ℕ) (p : PageId) → (frame_at v k).page 
     → IsResident v p
 is_resident v k p at = record { frame = k; there = there_is v.frames k p at; holds = at }
 
--- where the resident pages of each device are of the shard, all are
+-- if the resident pages of each device are of the shard, all are
 pub all_own : (count i : ℕ) (s : PoolState) → IsPool s
     → ((k : ℕ) → k < length s.devices → AreOwnOf count i (view_of s) k (nth_device s.devices k).pages)
     → HasPagesOf count i (view_of s)

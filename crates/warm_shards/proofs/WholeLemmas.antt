@@ -1,4 +1,4 @@
--- The history of all shards: what it says of a page, and how it goes where one shard changes.
+-- The history of all shards: what it says of a page, and how it changes when one shard does.
 use Rattle.std.proofs.Common.{◌≡◌, ◌≢◌, ℕ, zero, suc, ◌<◌, ◌≤◌, Bool, true, false, List, [], ◌∷◌, ◌++◌, length, map, filter, None, refl, sym, ap, ◌∙◌, arith, set, take}
 use Rattle.std.specs.List.{AllByRecursion}
 use Rattle.std.specs.Ordering.{is_eq, flip_args}
@@ -149,7 +149,7 @@ last_two R B H =
     ∙ history_second R (H ∪ B)
     ∙ ap history (sym (both_assoc R H B))
 
--- where one shard has taken references in, all together have
+-- if one shard has taken references in, all together have
 pub one_takes : (ns : List NodeState) (i : ℕ) (B : ReferenceSet) (m : NodeState) → i < length ns
     → m.history ≡ history (references_of (shard_at ns i).history ∪ B)
     → whole (set ns i m) ≡ history (references_of (whole ns) ∪ B)
@@ -170,7 +170,7 @@ one_takes (n ∷ ns) (suc i) B m lt is =
     ∙ sym (history_first (R ∪ W) B)
     ∙ ap (λ h. history (references_of h ∪ B)) (history_second R (held ns))
 
--- where one shard has the same history as before, all together have
+-- if one shard has the same history as before, all together have
 pub one_stays : (ns : List NodeState) (i : ℕ) (m : NodeState) → m.history ≡ (shard_at ns i).history
     → i < length ns → held (set ns i m) ≡ held ns
 one_stays [] i m is lt = absurd (omega arith)

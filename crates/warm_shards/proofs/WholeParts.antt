@@ -1,4 +1,4 @@
--- Where each shard has had its part, all together have had the whole.
+-- If each shard has had its part, all together have had the whole.
 use Rattle.std.proofs.Common.{◌≡◌, inl, inr, ℕ, zero, suc, ◌+◌, ◌<◌, ◌≤◌, Bool, true, false, cond, List, [], ◌∷◌, ◌++◌, map, filter, length, set, take, max, nat_eq, refl, sym, ap, subst, ◌∙◌, arith, add-one, take_all}
 use Rattle.std.proofs.lemmas.Bool.{cases_eq}
 use Rattle.std.proofs.lemmas.List.{append-nil, ext_get_or, get_or-set_other, get_or-set_same, length-set}

@@ -1,4 +1,4 @@
--- Calls that go to each shard, from the first on, and stop where one refuses.
+-- Calls that go to each shard, from the first on, and stop if one refuses.
 use Rattle.std.specs.Prelude.{◌≡◌, ◌⊎◌, ℕ, ◌<◌, ◌≤◌, false, List, [], length}
 use Rattle.warm_history.specs.Histories.{history_of_entries_at}
 use Rattle.warm_pool.specs.Calls.{FlushesNone}

@@ -27,9 +27,9 @@ pub record AreGiven (S : ReferenceSet) (old new : List NodeState) : Type 0 where
   pub given : TakesInAll old S new
   pub pools : KeepPools old new
 
--- What a call leaves that gives the references of S to shards. They have taken in all of S, or,
--- where memory was refused, its horizon and what it has for the first shards. They are still the
--- shards of a replica, and their pools are as they were.
+-- A call gave the references of S to shards. They have taken in all of S or, if memory was refused,
+-- its horizon and what it has for the first shards. They are still the shards of a replica, and
+-- their pools are as they were.
 pub record Gives (S : ReferenceSet) (old : List NodeState) (result : Result Unit NodeFault)
     (new : List NodeState) : Type 0 where
   pub shards : AreShards new

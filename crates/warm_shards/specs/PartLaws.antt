@@ -1,5 +1,5 @@
--- Laws of parts: where each shard has had its part, all shards together have had the whole. They
--- hold of whatever nodes there are, in whatever order the shards were called.
+-- Laws of parts: if each shard has had its part, all shards together have had the whole. They hold
+-- of whatever nodes there are, in whatever order the shards were called.
 use Rattle.std.specs.Prelude.{◌≡◌, ℕ, ◌+◌, ◌<◌, List, [], length, slice_set}
 use Rattle.warm_stamps.specs.declared.Reference.{Reference}
 use Rattle.warm_stamps.specs.declared.TheConstants.{BUCKETS}
@@ -17,7 +17,7 @@ use Rattle.warm_shards.specs.Digests.{FillsShard}
 use Rattle.warm_shards.specs.Parts.{part_of_batch, part_of_history, part_of_message}
 use Rattle.warm_shards.specs.Shards.{AreShards, IsShardCount, shard_at, whole}
 
--- where one shard has taken references in, all together have, whatever the others hold
+-- if one shard has taken references in, all together have, whatever the others hold
 abbrev pub OneTakesIn : Type 0
 OneTakesIn = (shards : List NodeState) (i : ℕ) (S : ReferenceSet) (n : NodeState)
     → i < length shards → n.history ≡ history (references_of (shard_at shards i).history ∪ S)
@@ -31,20 +31,20 @@ pub record EachGoes (goes : ℕ → NodeState → NodeState → Type 0) (old new
   pub long : length new ≡ length old
   pub each : (i : ℕ) → i < length old → goes i (shard_at old i) (shard_at new i)
 
--- where each has absorbed its part of a batch, all together have absorbed the batch
+-- if each has absorbed its part of a batch, all together have absorbed the batch
 abbrev pub BatchIsOfParts : Type 0
 BatchIsOfParts = (batch : List Reference) (old new : List NodeState)
     → EachGoes (λ i n m. Goes n (Absorb (part_of_batch (length old) i batch)) Done m) old new
     → whole new ≡ history (references_of (whole old) ∪ set_of_list batch)
 
--- where each has received what a message brings to it, all together have received the message
+-- if each has received what a message brings to it, all together have received the message
 abbrev pub MessageIsOfParts : Type 0
 MessageIsOfParts = (message : Message) (old new : List NodeState)
     → EachGoes (λ i n m. Goes n (Receive (part_of_message (length old) i message)) (Answers []) m)
     old new
     → whole new ≡ history_after (whole old) message
 
--- where each has joined what a history says of its pages, all together have joined the history
+-- if each has joined what a history says of its pages, all together have joined the history
 abbrev pub HistoryIsOfParts : Type 0
 HistoryIsOfParts = (h : HistoryView) (old new : List NodeState)
     → EachGoes (λ i n m. Joins n (part_of_history (length old) i h) m) old new

@@ -23,11 +23,11 @@ IsFormingRefused number nodes fault = ⊥
 
 -- The steps
 
--- the page is of this shard, where it is in a frame
+-- the page is of this shard, if it is in a frame
 abbrev pub IsOwnIfResident : ℕ → ℕ → PoolView → PageId → Type 0
 IsOwnIfResident count i v p = IsResident v p → shard_of count p ≡ i
 
--- the first pages of a device are of this shard, where they are in frames
+-- the first pages of a device are of this shard, if they are in frames
 abbrev pub AreOwnOf : ℕ → ℕ → PoolView → ℕ → ℕ → Type 0
 AreOwnOf count i v dev pages = (no : ℕ) → no < pages
     → IsOwnIfResident count i v (record { dev = dev; no = no })

@@ -40,7 +40,7 @@ pub fn fill_digests(
 
 /// The digests of all buckets, of each that of its shard.
 ///
-/// `Memory` occurs only where an allocation fails.
+/// `Memory` occurs only if an allocation fails.
 pub(crate) fn gathered<D: PageDevice>(nodes: &mut Vec<Node<D>>) -> Result<DigestTable, NodeFault>
     requires { AreShards nodes.old.items }
     ensures table { IfOk result (λ table.
@@ -62,7 +62,7 @@ pub(crate) fn gathered<D: PageDevice>(nodes: &mut Vec<Node<D>>) -> Result<Digest
 
 /// The entries of the requested buckets, bucket by bucket, of each those of its shard.
 ///
-/// `AllocError` occurs only where an allocation fails.
+/// `AllocError` occurs only if an allocation fails.
 pub(crate) fn requested<D: PageDevice>(
     alloc: Global,
     nodes: &Vec<Node<D>>,
@@ -90,9 +90,9 @@ fn put_last(messages: &mut Vec<Message>, message: Message) -> Result<(), AllocEr
 }
 
 /// The answer to the digests of another replica: the entries of the buckets that differ, and then a
-/// request for these; nothing where none differs.
+/// request for these; nothing if none differs.
 ///
-/// `Memory` occurs only where an allocation fails.
+/// `Memory` occurs only if an allocation fails.
 pub(crate) fn answer_to_digests<D: PageDevice>(
     alloc: Global,
     nodes: &mut Vec<Node<D>>,
@@ -160,7 +160,7 @@ fn is_later<D: PageDevice>(nodes: &Vec<Node<D>>, time: u64) -> bool
 
 /// What all shards together would answer to a message.
 ///
-/// `Memory` occurs only where an allocation fails.
+/// `Memory` occurs only if an allocation fails.
 pub(crate) fn answered<D: PageDevice>(
     alloc: Global,
     nodes: &mut Vec<Node<D>>,

@@ -22,7 +22,7 @@ fn are_of<T: NamesPage>(items: &[T], count: usize, shard: usize) -> bool
     true
 }
 
-/// The shard whose pages all items name: that of the first item, or shard 0 where there is none. It
+/// The shard whose pages all items name: that of the first item, or shard 0 if there is none. It
 /// looks at no item behind the first that names a page of another shard. Allocation-free.
 pub(crate) fn only_shard<T: NamesPage>(items: &[T], count: usize) -> Option<usize>
     requires { IsShardCount count }
@@ -57,7 +57,7 @@ fn empty_parts<T: NamesPage>(alloc: Global, count: usize) -> Result<Vec<Vec<T>>,
 /// The references of a batch, or entries, by the shards of their pages: for each shard its own, in
 /// order. The items are read once.
 ///
-/// `AllocError` occurs only where an allocation fails.
+/// `AllocError` occurs only if an allocation fails.
 pub fn parts_of<T: NamesPage + Copy>(
     alloc: Global,
     items: &[T],

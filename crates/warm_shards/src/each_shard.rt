@@ -184,9 +184,8 @@ impl<D: PageDevice> Shards<D> {
     /// or none does. Allocation-free.
     ///
     /// # Errors
-    /// Those of [`warm_gossip::Node::may_forget`] of some shard: `Pool(NoDevice)`, where it has no
-    /// device of this number, or `Pool(Fixed)`, where one of its pages is pinned. Nothing has
-    /// changed.
+    /// Those of [`warm_gossip::Node::may_forget`] of some shard: `Pool(NoDevice)`, if it has no
+    /// device of this number, or `Pool(Fixed)`, if one of its pages is pinned. Nothing has changed.
     pub fn forget_pages(&mut self, dev: u16, from: u64) -> Result<(), NodeFault>
         ensures forgotten { OnOk result (OfEach (ShardForgetsPages dev from) self.old self.new) }
         ensures refused { IfErr result (λ why. ForgetIsRefused dev from why self.old) }
@@ -203,10 +202,10 @@ impl<D: PageDevice> Shards<D> {
     /// # Errors
     /// In this order.
     /// - `Pool(Fixed)`: a page of some shard is pinned. Nothing has changed.
-    /// - `Pool(Fault)`: a device failed. Where it failed before all was written back, as of
-    ///   [`Shards::write_back_all`], nothing was forgotten. Where it failed as its shard restarted,
+    /// - `Pool(Fault)`: a device failed. If it failed before all was written back, as of
+    ///   [`Shards::write_back_all`], nothing was forgotten. If it failed as its shard restarted,
     ///   the shards before that one have forgotten their references and their pages, and have the
-    ///   horizon that all had; that one and those after it have forgotten nothing. To restart once
+    ///   horizon that all had. That one and those after it have forgotten nothing. To restart once
     ///   more is then right.
     pub fn restart(&mut self) -> Result<(), NodeFault>
         ensures restarted { OnOk result (OfEach ShardRestarts self.old self.new) }

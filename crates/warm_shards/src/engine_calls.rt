@@ -93,7 +93,7 @@ impl<D: PageDevice> Shards<D> {
         self.nodes[shard].write_back_some(limit)
     }
 
-    /// Writes back one page, where it is resident and dirty, and returns whether it was: as
+    /// Writes back one page, if it is resident and dirty, and returns whether it was: as
     /// [`warm_gossip::Node::write_back_page`] of its shard. No device is flushed. Allocation-free.
     ///
     /// # Errors

@@ -157,7 +157,7 @@ impl<D: PageDevice> Shards<D> {
     /// checks the times of a message with [`warm_frames::check_times`] before.
     ///
     /// # Errors
-    /// `Memory`: an allocation failed. All shards then have the message's horizon, where that is
+    /// `Memory`: an allocation failed. All shards then have the message's horizon, if that is
     /// later, and the first shards have taken in the references to their pages; the others have
     /// not, and nothing was answered. To receive the message once more does no harm.
     pub fn receive(&mut self, message: Message) -> Result<MessageList, NodeFault>
@@ -175,7 +175,7 @@ impl<D: PageDevice> Shards<D> {
     /// is copied.
     ///
     /// # Errors
-    /// `Memory`: an allocation failed. All shards then have the other horizon, where that is later,
+    /// `Memory`: an allocation failed. All shards then have the other horizon, if that is later,
     /// and the first shards have taken in the references to their pages. To join once more does no
     /// harm.
     pub fn join(&mut self, other: &History) -> Result<(), NodeFault>

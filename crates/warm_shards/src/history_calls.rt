@@ -55,7 +55,7 @@ fn absorb_each<D: PageDevice>(
     Ok(())
 }
 
-// Each node absorbs its part of the batch. It is copied only where it has pages of several shards.
+// Each node absorbs its part of the batch. It is copied only if it has pages of several shards.
 fn absorb_parts<D: PageDevice>(
     alloc: Global,
     nodes: &mut Vec<Node<D>>,
@@ -107,7 +107,7 @@ impl<D: PageDevice> Shards<D> {
         raise_all(&mut self.nodes, time)
     }
 
-    /// The `n` hottest pages of all shards, hottest first, or all where there are fewer: the call
+    /// The `n` hottest pages of all shards, hottest first, or all if there are fewer: the call
     /// `WarmList` of the whole. It copies the history.
     ///
     /// # Errors

@@ -55,7 +55,7 @@ fn join_each<D: PageDevice>(
 }
 
 /// Each node takes in the entries of its pages. All shards have the horizon. The entries are copied
-/// only where they are of pages of several shards.
+/// only if they are of pages of several shards.
 pub(crate) fn join_parts<D: PageDevice>(
     alloc: Global,
     nodes: &mut Vec<Node<D>>,

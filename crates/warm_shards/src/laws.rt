@@ -44,14 +44,14 @@ pub fn failures_stay_in_shard()
     ensures { FailuresStayInShard }
 {}
 
-/// Where one shard takes references in, all shards together do, whatever the others hold. So shards
+/// If one shard takes references in, all shards together do, whatever the others hold. So shards
 /// may be called in any order, and by different threads.
 pub fn one_takes_in()
     ensures { OneTakesIn }
 {}
 
-/// Where each shard has had its part of a batch, a message or a history, all shards together have
-/// had the whole: what one node has then.
+/// If each shard has had its part of a batch, a message or a history, all shards together have had
+/// the whole: what one node has then.
 pub fn parts_are_the_whole()
     ensures batch { BatchIsOfParts }
     ensures message { MessageIsOfParts }

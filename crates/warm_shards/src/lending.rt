@@ -41,7 +41,7 @@ impl<D: PageDevice> Shards<D> {
     }
 
     /// All bytes of the slot's page, to be written to. Nothing is copied. The page becomes dirty,
-    /// even where nothing is written: it is written back before it is evicted. Allocation-free.
+    /// even if nothing is written: it is written back before it is evicted. Allocation-free.
     ///
     /// The slot must hold its page: [`warm_pool::Pool::holds`] of the shard's pool tells.
     pub fn bytes_mut(&mut self, at: ShardSlot) -> &mut [u8]

@@ -25,7 +25,7 @@ fn sender_of(message: &Message) -> ReplicaId
 /// The entries of pages of the shard of this number, of this many, in order. It reads each entry
 /// once.
 ///
-/// `AllocError` occurs only where an allocation fails.
+/// `AllocError` occurs only if an allocation fails.
 pub fn part_of_entries(
     alloc: Global,
     entries: &[Entry],
@@ -44,8 +44,7 @@ pub fn part_of_entries(
     Ok(part)
 }
 
-// The entries that a message brings to the shard. `AllocError` occurs only where an allocation
-// fails.
+// The entries that a message brings to the shard. `AllocError` occurs only if an allocation fails.
 fn entries_for(
     alloc: Global,
     message: &Message,
@@ -65,11 +64,11 @@ fn entries_for(
 }
 
 /// What a message brings to the shard of this number, of this many: a message of the same sender
-/// and horizon, with the entries of pages of the shard. Where each shard receives its part, all
+/// and horizon, with the entries of pages of the shard. If each shard receives its part, all
 /// together have received the message ([`crate::laws::parts_are_the_whole`]). It reads each entry
 /// once.
 ///
-/// `AllocError` occurs only where an allocation fails.
+/// `AllocError` occurs only if an allocation fails.
 pub fn part_of_message(
     alloc: Global,
     message: &Message,

@@ -32,8 +32,8 @@ pub struct ShardSlot {
 }
 
 impl<D: PageDevice> Shards<D> {
-    /// Pins a page in its shard, and loads it into a frame of that shard where it isn't resident:
-    /// the call `Pin` of the shard. Allocation-free.
+    /// Pins a page in its shard, and loads it into a frame of that shard if it isn't resident: the
+    /// call `Pin` of the shard. Allocation-free.
     ///
     /// **A pin is not a reference**: a caller that pins a page also absorbs a reference to it.
     ///
@@ -75,8 +75,8 @@ impl<D: PageDevice> Shards<D> {
     /// Reads `len` bytes of the slot's page, from `at` on: the call `Read` of the slot's shard.
     ///
     /// # Errors
-    /// In this order: `StaleSlot`, where there is no such shard, or the slot doesn't hold its page
-    /// there; `Pool(OutOfPage)`, where the bytes reach beyond its end; `Memory`.
+    /// In this order: `StaleSlot`, if there is no such shard, or the slot doesn't hold its page
+    /// there; `Pool(OutOfPage)`, if the bytes reach beyond its end; `Memory`.
     pub fn read(&self, slot: ShardSlot, at: usize, len: usize) -> Result<ByteList, NodeFault>
         ensures { let shard = shard_at self.now slot.shard in
             Answered shard (Read slot.slot at len) Bytes result shard }
@@ -91,8 +91,8 @@ impl<D: PageDevice> Shards<D> {
     /// that length of the slot's shard. Allocation-free.
     ///
     /// # Errors
-    /// In this order: `StaleSlot`, where there is no such shard, or the slot doesn't hold its page
-    /// there; `Pool(OutOfPage)`, where the bytes reach beyond its end. `into` is then as it was.
+    /// In this order: `StaleSlot`, if there is no such shard, or the slot doesn't hold its page
+    /// there; `Pool(OutOfPage)`, if the bytes reach beyond its end. `into` is then as it was.
     pub fn read_into(&self, slot: ShardSlot, at: usize, into: &mut [u8]) -> Result<(), NodeFault>
         ensures read { let shard = shard_at self.now slot.shard in
             OnOk result (Goes shard (Read slot.slot at (length into.old)) (Bytes into.new) shard) }
@@ -109,8 +109,8 @@ impl<D: PageDevice> Shards<D> {
     /// Allocation-free.
     ///
     /// # Errors
-    /// In this order: `StaleSlot`, where there is no such shard, or the slot doesn't hold its page
-    /// there; `Pool(OutOfPage)`, where the bytes reach beyond its end. Nothing has changed.
+    /// In this order: `StaleSlot`, if there is no such shard, or the slot doesn't hold its page
+    /// there; `Pool(OutOfPage)`, if the bytes reach beyond its end. Nothing has changed.
     pub fn write(&mut self, slot: ShardSlot, at: usize, bytes: &[u8]) -> Result<(), NodeFault>
         ensures step { Answered (shard_at self.old slot.shard) (Write slot.slot at bytes.now) done
             result (shard_at self.new slot.shard) }
@@ -142,10 +142,9 @@ impl<D: PageDevice> Shards<D> {
         self.nodes[shard].write_back()
     }
 
-    /// The page of a shard that would be evicted next for another page of that shard, where there
-    /// is one: the call `Victim` of the shard. Of the unpinned resident pages of its shard it has
-    /// the greatest backward 2-distance, over all references to pages of all shards.
-    /// Allocation-free.
+    /// The page of a shard that would be evicted next for another page of that shard, if there is
+    /// one: the call `Victim` of the shard. Of the unpinned resident pages of its shard it has the
+    /// greatest backward 2-distance, over all references to pages of all shards. Allocation-free.
     pub fn victim(&mut self, shard: usize) -> Option<PageId>
         requires there { shard < length self.old }
         ensures step { Goes (shard_at self.old shard) Victim (Page result)
@@ -174,8 +173,8 @@ impl<D: PageDevice> Shards<D> {
         self.nodes[shard].warm_step()
     }
 
-    /// The page that [`Shards::warm_step`] of the shard would load now; `None` where there is none:
-    /// as [`warm_gossip::Node::warm_next`] of the shard. Nothing is loaded.
+    /// The page that [`Shards::warm_step`] of the shard would load now; `None` if there is none: as
+    /// [`warm_gossip::Node::warm_next`] of the shard. Nothing is loaded.
     ///
     /// # Errors
     /// Those of [`warm_gossip::Node::warm_next`] of the shard.

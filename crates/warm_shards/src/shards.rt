@@ -52,12 +52,11 @@ pub fn is_shard_count(count: usize) -> bool
     count.is_power_of_two() && count <= usize::from(BUCKETS)
 }
 
-/// How many frames each shard has where this many are divided among this many shards.
-/// Allocation-free.
+/// How many frames each shard has if this many are divided among this many shards. Allocation-free.
 ///
 /// # Errors
-/// In this order: `BadCount`, where there cannot be this many shards; `Uneven`, where the frames
-/// cannot be divided evenly.
+/// In this order: `BadCount`, if there cannot be this many shards; `Uneven`, if the frames cannot
+/// be divided evenly.
 pub fn frames_of_shard(frames: usize, shards: usize) -> Result<usize, ShardsFault>
     ensures divided { IfOk result (λ each. IsShardCount shards × (each * shards ≡ frames)) }
     ensures refused { IfErr result (IsDivisionRefused frames shards) }
@@ -85,8 +84,8 @@ impl<D: PageDevice> Shards<D> {
     /// has this number, has received no reference, and no page is in its pool. Allocation-free.
     ///
     /// # Errors
-    /// In this order: `BadCount`, where there cannot be this many shards; `NotOpened`, where a node
-    /// is not so. The nodes are given back.
+    /// In this order: `BadCount`, if there cannot be this many shards; `NotOpened`, if a node is
+    /// not opened so. The nodes are given back.
     pub fn new(
         alloc: Global,
         id: ReplicaId,
@@ -156,7 +155,7 @@ impl<D: PageDevice> Shards<D> {
     /// A copy of the history of all shards: their entries together. A dump of it is a dump of the
     /// replica.
     ///
-    /// `AllocError` occurs only where an allocation fails.
+    /// `AllocError` occurs only if an allocation fails.
     pub fn history(&self) -> Result<History, AllocError>
         ensures { IfOk result (λ copy. copy ≡ whole self.now) }
     {

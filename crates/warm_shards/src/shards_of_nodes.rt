@@ -130,8 +130,8 @@ impl<D: PageDevice> Shards<D> {
     /// in its pool: the cost is linear in both. A replica that starts empty uses [`Shards::new`].
     ///
     /// # Errors
-    /// In this order: `BadCount`, where there cannot be this many shards; `NotShards`, where a node
-    /// is not so. The nodes are given back, unchanged.
+    /// In this order: `BadCount`, if there cannot be this many shards; `NotShards`, if a node is
+    /// not such a shard. The nodes are given back, unchanged.
     pub fn from_nodes(
         alloc: Global,
         id: ReplicaId,

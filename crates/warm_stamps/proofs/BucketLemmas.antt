@@ -64,7 +64,7 @@ visited before left after b split steps =
       longer = omega (arith, length-append before (b ∷ []), at);
     }
 
--- where none is left, all have been visited
+-- if none is left, all have been visited
 pub all_visited : (before after : List ℕ) → before ++ after ≡ range_with_len 0 BUCKETS → after ≡ []
     → length before ≡ BUCKETS
 all_visited before after is none = sym (ap length (append-nil before)) ∙ ap (λ rest. length (before ++ rest)) (sym none) ∙ ap length is ∙ length-range_with_len 0 BUCKETS

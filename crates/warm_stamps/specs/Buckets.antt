@@ -1,5 +1,5 @@
 -- The classes (buckets) of pages. A set of buckets is a number of 64 bits: bit b, of value 2^b, is
--- 1 where bucket b is in the set.
+-- 1 if bucket b is in the set.
 use Rattle.std.specs.Prelude.{ℕ, ◌+◌, ◌-◌, ◌%◌, ◌<◌, ◌==◌, List, filter}
 use Rattle.std.specs.Int.{bit_at}
 use Rattle.std.specs.List.{range_with_len}

@@ -9,7 +9,7 @@ pub use Rattle.warm_stamps.specs.Replicas.{IsReplica}
 abbrev pub bytes_of_stamp : Stamp → List ℕ
 bytes_of_stamp s = to_be_bytes w64 s.time ++ to_be_bytes w16 s.replica
 
--- the stamp that ten bytes encode, where its replica number is valid
+-- the stamp that ten bytes encode, if its replica number is valid
 abbrev pub stamp_of : List ℕ → Stamp
 stamp_of bytes =
     record { time = from_be_bytes w64 (take 8 bytes); replica = from_be_bytes w16 (drop 8 bytes) }
@@ -23,7 +23,7 @@ abbrev pub page_from_bytes : List ℕ → PageId
 page_from_bytes bytes =
     record { dev = from_be_bytes w16 (take 2 bytes); no = from_be_bytes w64 (drop 2 bytes) }
 
--- two bytes of the device's number, then four of the page's, where its number fits in 32 bits
+-- two bytes of the device's number, then four of the page's, if its number fits in 32 bits
 abbrev pub narrow_bytes_of_page : PageId → List ℕ
 narrow_bytes_of_page p = to_be_bytes w16 p.dev ++ to_be_bytes w32 p.no
 

@@ -71,7 +71,7 @@ pub fn bucket_of(page: PageId) -> Bucket
 
 /// A set of buckets.
 ///
-/// Contracts see it as a number of 64 bits: bit b, of value 2^b, is 1 where bucket b is in the set.
+/// Contracts see it as a number of 64 bits: bit b, of value 2^b, is 1 if bucket b is in the set.
 #[derive(Debug, Clone, Copy, PartialEq, Eq)]
 pub struct BucketSet {
     bits: u64,
@@ -102,14 +102,14 @@ impl BucketSet {
         BucketSet { bits: u64::MAX }
     }
 
-    /// The set that has a bucket where the bit of its number is 1.
+    /// The set that has a bucket if the bit of its number is 1.
     pub fn from_bits(bits: u64) -> BucketSet
         ensures { result ≡ bits }
     {
         BucketSet { bits }
     }
 
-    /// The set as a number: the bit of a bucket's number is 1 where the set has the bucket.
+    /// The set as a number: the bit of a bucket's number is 1 if the set has the bucket.
     pub fn bits(self) -> u64
         ensures value { result ≡ self }
         ensures below { result < 2 ^ 64 }

@@ -15,7 +15,7 @@ pub fn stamp_bytes(stamp: Stamp) -> [u8; 10]
     [a, b, c, d, e, f, g, h, high, low]
 }
 
-/// The stamp of these ten bytes. `BadReplica` occurs exactly where the last two are not a valid
+/// The stamp of these ten bytes. `BadReplica` occurs exactly if the last two are not a valid
 /// replica number.
 pub fn stamp_from(bytes: &[u8; 10]) -> Result<Stamp, BadReplica>
     ensures value { IfOk result (λ stamp. stamp ≡ stamp_of bytes.now) }

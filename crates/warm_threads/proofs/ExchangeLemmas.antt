@@ -40,7 +40,7 @@ sends_more bucket after message [] full h = absurd h
 sends_more bucket after message (e ∷ es) full h = (message, (refl, refl), full, h)
 
 module _ {X : Type 0} (goes : X → Call → Reply → X → Type 0) where
-  -- calls have led to where just what the bucket has after this page is to be sent still
+  -- after these calls, just what the bucket has after this page is still to be sent
   pub record IsSending (bucket : ℕ) (x : X) (after : Option PageId) (z : X) : Type 0 where
     pub calls : Calls
     pub runs : Runs goes x calls z

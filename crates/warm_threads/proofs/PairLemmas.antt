@@ -51,7 +51,7 @@ values_of_ok : {A T E : Type 0} (P : A → T → Type 0) (xs : List A) (results 
     → Pairs (λ x r. IfOk r (P x)) xs results → Pairs (λ r t. r ≡ Ok t) results ys → Pairs P xs ys
 values_of_ok P xs results ys = pairs_then (λ x r. IfOk r (P x)) (λ r t. r ≡ Ok t) P (λ x r t h is. subst (λ q. IfOk q (P x)) is h) xs results ys
 
--- the same where all are Ok
+-- the same if all are Ok
 pub values_if_ok : {A T E : Type 0} (P : A → T → Type 0) (xs : List A) (results : List (Result T E))
     (r : Result (Vec T) E)
     → Pairs (λ x r. IfOk r (P x)) xs results → IfOk r (λ v. Pairs (λ r t. r ≡ Ok t) results v.items)

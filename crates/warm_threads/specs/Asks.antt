@@ -36,11 +36,11 @@ ask i w task = record { replica = i; worker = w; task = task }
 abbrev pub not_playable : NotPlayable
 not_playable = record {}
 
--- the request, where there is such a worker
+-- the request, if there is such a worker
 abbrev pub ask_if : Bool → Ask → Result Ask NotPlayable
 ask_if there a = if there then Ok a else Err not_playable
 
--- the request of an event, where the worker exists
+-- the request of an event, if the worker exists
 abbrev pub ask_in : Sizes → WorkerRequest → Result Ask NotPlayable
 ask_in s (request.Reference i w page time) =
     ask_if (has_worker s i w) (ask i w (task.Reference (reference i page time)))
@@ -51,7 +51,7 @@ abbrev pub as_said : Result Ask NotPlayable → Result (Option Ask) NotPlayable
 as_said (Ok a) = Ok (Some a)
 as_said (Err e) = Err e
 
--- a request to a worker, or nothing; not playable where the line is bad or is not a request to a
+-- a request to a worker, or nothing; not playable if the line is bad or is not a request to a
 -- worker, or the setup has no such worker
 abbrev pub asked_in : Sizes → Result (Option WorkerRequest) NotForWorker
     → Result (Option Ask) NotPlayable
@@ -68,8 +68,7 @@ abbrev pub bad_or : Result (Option Ask) NotPlayable → ℕ → Option ℕ → O
 bad_or (Err e) number later = Some number
 bad_or (Ok said) number later = later
 
--- the number of the first of these lines that threads can't play, where the first of all has this
--- number
+-- the number of the first of these lines that threads can't play; the first of all has this number
 abbrev pub bad_from : Sizes → ℕ → List (List ℕ) → Option ℕ
 bad_from s number [] = None
 bad_from s number (line ∷ rest) = bad_or (asked s line) number (bad_from s (number + 1) rest)

@@ -62,8 +62,8 @@ DoPlans capacity plans jobs =
     Pairs (λ ps js. Pairs (DoesPlan capacity) ps.items js.items) plans jobs
 
 -- The job of a worker of a replica: its buffer is as large as the setup says. It carries out the
--- worker's requests, in their order, where a full buffer is flushed before a further reference, and
--- it flushes last.
+-- worker's requests, in their order, flushes a full buffer before a further reference, and flushes
+-- last.
 pub record IsJobOf (s : Sizes) (asks : List Ask) (i w : ℕ) (job : Job) : Type 0 where
   pub capacity : job.cap ≡ s.buffer
   pub steps : job.steps.items ≡ (plan_of s asks i w).steps ++ Flush ∷ []

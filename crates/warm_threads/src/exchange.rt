@@ -56,7 +56,7 @@ fn post_stops<R: Wait>(rt: &R, boxes: &[Sender<SharedMail>]) -> Result<(), Repli
 }
 
 // The page after which more of the bucket may follow: the last one of a message that is full.
-// `None` where nothing follows.
+// `None` if nothing follows.
 fn next_after(message: &Message) -> Option<PageId>
     ensures full { IfSome result (λ page. MAX_ENTRIES ≤ length (entries_in message.now)) }
     ensures last { IfSome result (λ page. last_page (entries_in message.now) ≡ Some page) }
@@ -75,7 +75,7 @@ fn next_after(message: &Message) -> Option<PageId>
     }
 }
 
-// Requests a message of a bucket's entries, after a page where one is given.
+// Requests a message of a bucket's entries, after a page if one is given.
 fn asked_message<M: Machine<Call = Call, Reply = Reply>>(
     machine: &mut M,
     bucket: Bucket,

@@ -107,8 +107,7 @@ fn first_error<T>(results: &[Result<T, ReplicaRunFault>]) -> Option<ReplicaRunFa
     None
 }
 
-// The values of the results, where all are Ok. The fault is `Closed` only where no result has
-// another.
+// The values of the results, if all are Ok. The fault is `Closed` only if no result has another.
 fn all_or_first_error<T: Drop>(
     alloc: Global,
     results: Vec<Result<T, ReplicaRunFault>>,

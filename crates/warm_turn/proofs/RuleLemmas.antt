@@ -17,15 +17,15 @@ use Rattle.warm_turn.specs.declared.table.View.{View}
 use Rattle.warm_turn.specs.declared.table.CallMade.{CallMade}
 use Rattle.warm_turn.specs.declared.table.CellContents.{CellContents}
 use Rattle.warm_machine.specs.Runs.{operation, Runs}
-use Rattle.warm_turn.specs.CallHistories.{HoldsNumber, nobody, calls_by, IsLast, IsNote, IsPass, first_pass, pass_note, halved, heir_of, numbered, marked, learned, joined}
+use Rattle.warm_turn.specs.CallHistories.{HoldsNumber, nobody, calls_by, IsLast, IsNote, IsPass, first_pass, pass_note, halved, heir_of, numbered, as_spent, learned, joined}
 use Rattle.warm_turn.specs.CallHistories.{settled}
 use Rattle.warm_turn.specs.Rule.{HasHolder, ticket_word, serving_word, IsQueued, InTurn, IsRecorded, OneHistory, IsShared, TicketRuleHolds, AreWords}
 use Rattle.warm_turn.specs.Shares.{IsWhole}
 use Rattle.warm_turn.specs.Steps.{waiting, glancing, server, after_call, glanced, forgot, seized, took, looked, passed, caught_up, came, became_pass}
-use Rattle.warm_turn.proofs.Lists.{off, never, now_at, same_at, same_carried, IsPrefix-self, IsPrefix-length}
-use Rattle.warm_turn.proofs.Tickets as tickets
-use Rattle.warm_turn.proofs.Histories as histories
-use Rattle.warm_turn.proofs.Histories.{StaysPass}
+use Rattle.warm_turn.proofs.ListLemmas.{off, never, now_at, same_at, same_carried, IsPrefix-self, IsPrefix-length}
+use Rattle.warm_turn.proofs.TicketLemmas as tickets
+use Rattle.warm_turn.proofs.HistoryLemmas as histories
+use Rattle.warm_turn.proofs.HistoryLemmas.{StaysPass}
 use Rattle.warm_turn.proofs.WeightLemmas as sharing
 
 module _ {M X C R : Type 0} (view_of : M → X) (goes : X → C → R → X → Type 0) (o : X) where
@@ -136,7 +136,7 @@ module _ {M X C R : Type 0} (view_of : M → X) (goes : X → C → R → X → 
         shares = same_shares s r me v w at refl refl;
       }
 
-  -- where every ticket was served, the machine is at home
+  -- if every ticket was served, the machine is at home
   at_home : (s : St) → Rule s → serving_word s ≡ ticket_word s
       → (h : H) × (get_elem? s.homes 0 ≡ some (some (Some h)))
   at_home s r even = ⊎_elim
@@ -186,7 +186,7 @@ module _ {M X C R : Type 0} (view_of : M → X) (goes : X → C → R → X → 
     refl,
   )
 
-  -- the next ticket is taken where it is served, and the machine with it
+  -- if the next ticket is served, it is taken, and the machine with it
   seizes_next : (s : St) (r : Rule s) (me : ℕ) (v : V) → get_elem? s.views me ≡ some v
       → v.sees ≡ true → v.owns ≡ true → v.waits ≡ false → v.serves ≡ false
       → serving_word s ≡ ticket_word s → (new : ℕ) → new ≡ ticket_word s + 1 → new < 2 ^ 64
@@ -271,7 +271,7 @@ module _ {M X C R : Type 0} (view_of : M → X) (goes : X → C → R → X → 
       ))
       (λ (miss : t ≢ old). dite (ℕ_discrete (t + 1) (2 ^ 64))
       (λ (most : t + 1 ≡ 2 ^ 64).
-      let w : V = marked v in (
+      let w : V = as_spent v in (
         w,
         keeps,
         tt,
@@ -415,14 +415,14 @@ module _ {M X C R : Type 0} (view_of : M → X) (goes : X → C → R → X → 
     shares = sharing.begins o;
   }
 
-  -- where a pass has the whole right, who holds a number is this pass
+  -- if a pass has the whole right, who holds a number is this pass
   held_by_me : (s : St) (r : Rule s) (me : ℕ) (v : V) → get_elem? s.views me ≡ some v
       → IsWhole v.share → (n : ℕ) → HasHolder s.views n → HoldsNumber v n
   held_by_me s r me v at whole n (i, u, here, owns, holds) = dite (ℕ_discrete i me)
       (λ (same : i ≡ me). subst (λ (z : V). HoldsNumber z n) (same_at s.views me u v (subst (λ k. get_elem? s.views k ≡ some u) same here) at) holds)
       (λ (other : i ≢ me). absurd (sharing.only_one s.views r.shares me i v u at whole here owns other))
 
-  -- at the end, where every ticket was served, the machine is at home
+  -- at the end, if every ticket was served, the machine is at home
   pub closes : (me : ℕ) (v : V) (ws : List ℕ) (xs : List (Option H)) → IsPass goes v
       → Final (Seen Rule me v) ws xs → get_or ws 0 0 ≡ get_or ws 1 0 → (x : Option H)
       → get_elem? xs 0 ≡ some x
@@ -455,7 +455,7 @@ module _ {M X C R : Type 0} (view_of : M → X) (goes : X → C → R → X → 
       let below = (tickets.away_below s r.turns (r.turns.taker (serving_word s)) a.0 a.2 a.3).0 in absurd (omega arith))
       r.turns.home
 
-  -- at the end, where a pass that does not wait has the whole right, every ticket was served
+  -- at the end, if a pass that does not wait has the whole right, every ticket was served
   pub even_at_end : (me : ℕ) (v : V) (ws : List ℕ) (xs : List (Option H)) → v.waits ≡ false
       → IsWhole v.share → Final (Seen Rule me v) ws xs → get_or ws 0 0 ≡ get_or ws 1 0
   even_at_end me v ws xs idle whole last =

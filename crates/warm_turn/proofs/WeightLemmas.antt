@@ -10,7 +10,7 @@ use Rattle.warm_turn.specs.declared.table.View.{View}
 use Rattle.warm_turn.specs.Shares.{IsWhole, both, half, no_share}
 use Rattle.warm_turn.specs.CallHistories.{nobody, first_pass, halved, heir_of}
 use Rattle.warm_turn.specs.Rule.{weigh, IsWeighed, IsShared}
-use Rattle.warm_turn.proofs.Lists.{off, inside, at_end, one_member, each_set, put, put_here, put_else}
+use Rattle.warm_turn.proofs.ListLemmas.{off, inside, at_end, one_member, each_set, put, put_here, put_else}
 
 -- Weights
 

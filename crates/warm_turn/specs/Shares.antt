@@ -3,7 +3,7 @@
 use Rattle.std.specs.Prelude.{◌≡◌, ℕ, ◌+◌, ◌*◌}
 use Rattle.warm_turn.specs.declared.table.Share.{Share}
 
--- so many parts of so many
+-- this many parts of a whole
 abbrev pub parts_of : ℕ → ℕ → Share
 parts_of parts whole = record { parts = parts; whole = whole }
 

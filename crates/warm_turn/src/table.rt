@@ -21,7 +21,7 @@ pub struct EndedPass<C, R> {
     pub calls: LinkedList<Operation<C, R>>,
 }
 
-/// A share of the right to close a turn: `parts` of `whole`. It exists only in contracts, where
+/// A share of the right to close a turn: `parts` of `whole`. It exists only in contracts, in which
 /// numbers have no bound.
 pub struct Share {
     /// How many parts it has.

@@ -3,7 +3,7 @@ ghost use Rattle.std.specs.Prelude.{◌≡◌, ◌≢◌, ℕ, ◌<◌, [], ◌�
 ghost use Rattle.std.specs.Prelude.{true, false, IfOk, IfErr, IsOk, OnErr, OnOk};
 ghost use Rattle.warm_turn.specs.declared.table.CallMade.{CallMade};
 ghost use Rattle.warm_turn.specs.declared.table.CellContents.{CellContents};
-ghost use Rattle.warm_turn.specs.CallHistories.{calls_by, first_pass, new_pass, pass_note, marked};
+ghost use Rattle.warm_turn.specs.CallHistories.{calls_by, first_pass, new_pass, pass_note, as_spent};
 ghost use Rattle.warm_turn.specs.CallHistories.{IsPass, IsStep, IsLast, Called, Learned, Joined};
 ghost use Rattle.warm_turn.specs.CallHistories.{MadeVisit, halved};
 ghost use Rattle.warm_turn.specs.Shares.{IsWhole};
@@ -198,7 +198,7 @@ fn wait_and_visit<M: Machine, R: Wait, V: Visit<M>>(
     ensures ok { IfOk result (λ output. MadeVisit M.goes (V.makes visitor output) seat.old.me.0
         seat.new.me.0) }
     ensures err { IfErr result (λ e. (e.call ≡ visitor)
-        × (seat.new.me.0 ≡ marked seat.old.me.0)) }
+        × (seat.new.me.0 ≡ as_spent seat.old.me.0)) }
 {
     let Some(ticket) = poll_for_ticket(rt, shared, seat) else {
         return Err(TurnsSpent { call: visitor });
@@ -218,8 +218,8 @@ fn machine_of<M: Machine>(slot: Option<CellContents<M, M::Call, M::Reply>>) -> M
 }
 
 // The result of closing a turn, from the two words of its table and the contents of the slot: the
-// machine where each taken ticket was served, and otherwise these words. A machine in the slot is
-// then dropped.
+// machine if each taken ticket was served, and otherwise these words. A machine in the slot is then
+// dropped.
 fn opened<M: Machine + Drop>(ticket: u64, serving: u64, slot: MachineCell<M>) -> Result<M, Busy>
     requires home { ticket ≡ serving → (h : CellContents M M.Call M.Reply) × (slot ≡ Some h) }
     ensures machine { IfOk result (λ m. (h : CellContents M M.Call M.Reply)
@@ -399,7 +399,7 @@ impl<M: Machine> Turn<M> {
         ensures table { pass.new.table ≡ self.now.table }
         ensures visited { IfOk result (λ output. MadeVisit M.goes (V.makes visitor output)
             pass.old.view pass.new.view) }
-        ensures spent { IfErr result (λ e. pass.new.view ≡ marked pass.old.view) }
+        ensures spent { IfErr result (λ e. pass.new.view ≡ as_spent pass.old.view) }
         ensures given_back { IfErr result (λ e. e.call ≡ visitor) }
     {
         match self.try_visit(pass, visitor) {
@@ -431,7 +431,7 @@ impl<M: Machine> Turn<M> {
         ensures table { pass.new.table ≡ self.now.table }
         ensures called { IfOk result (λ r. Called M.goes pass.old.view call r pass.new.view) }
         ensures step { IfOk result (λ r. IsStep M.goes call r) }
-        ensures spent { IfErr result (λ e. pass.new.view ≡ marked pass.old.view) }
+        ensures spent { IfErr result (λ e. pass.new.view ≡ as_spent pass.old.view) }
         ensures given_back { IfErr result (λ e. e.call ≡ call) }
     {
         match self.visit(rt, pass, Calling { call }) {

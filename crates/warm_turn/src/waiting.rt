@@ -3,7 +3,7 @@
 //! Both are tried once without waiting, which is enough if nobody else uses the machine. What
 //! polls and sleeps may wait, and each call of a function that may costs a look at a flag.
 ghost use Rattle.std.specs.Prelude.{◌≡◌, ◌+◌, ◌<◌, ◌^◌, true, false, [], IfSome, IfNone, IsTrue};
-ghost use Rattle.warm_turn.specs.CallHistories.{IsPass, marked};
+ghost use Rattle.warm_turn.specs.CallHistories.{IsPass, as_spent};
 ghost use Rattle.warm_turn.specs.Rule.{IsTicketTable};
 ghost use Rattle.warm_turn.specs.Steps.{HasTicket, HasTurn, HasMachine};
 
@@ -27,7 +27,7 @@ const NAPS: u32 = 16;
 // How often a caller without a ticket polls. Then it takes one anyway.
 const LOOKS: u32 = SPINS + NAPS;
 
-// The first sleep of a caller between two polls, in microseconds, where the serving word has not
+// The first sleep of a caller between two polls, in microseconds, if the serving word has not
 // changed.
 const NAP: u64 = 50;
 
@@ -57,16 +57,16 @@ fn pause<M: Machine, R: Wait>(rt: &R, shared: &SharedTable<M>, served: u64, look
     }
 }
 
-// The ticket to try for, where the ticket word was seen to be `next`. The last number is no ticket:
+// The ticket to try for, after the ticket word was seen to be `next`. The last number is no ticket:
 // then it is 0, with which the exchange fails and finds the last number. A peek is no step at the
-// table, so it proves nothing; the exchange is one, and from it the seat gets its mark.
+// table, so it proves nothing. The exchange is one: by it alone the seat finds that it is spent.
 fn tried_for(next: u64) -> u64
     ensures { result + 1 < 2 ^ 64 }
 {
     if next == u64::MAX { 0 } else { next }
 }
 
-// Takes the next ticket and the machine, where the turn is free at once. It does not wait.
+// Takes the next ticket and the machine, if the turn is free at once. It does not wait.
 //
 // The serving word never falls, and is never greater than the ticket word. So a ticket that was
 // seen to be served is served when it is taken, and no look follows. A ticket word that is not equal
@@ -106,7 +106,7 @@ pub(crate) fn poll_for_ticket<M: Machine, R: Wait>(
     requires idle { IsPass M.goes seat.old.me.0 }
     ensures table { (seat.new.table_id ≡ seat.old.table_id) × (seat.new.id ≡ seat.old.id) }
     ensures some { IfSome result (λ k. HasTicket seat.old.me k seat.new.me) }
-    ensures none { IfNone result (seat.new.me ≡ (marked seat.old.me.0, seat.old.me.1)) }
+    ensures none { IfNone result (seat.new.me ≡ (as_spent seat.old.me.0, seat.old.me.1)) }
 {
     let mut looks = 0;
     for _ in rt.forever() {

@@ -21,10 +21,10 @@ use Rattle.warm_world.specs.GossipAnswers.{reach_after}
 use Rattle.warm_world.specs.Effects.{IsNamed}
 use Rattle.warm_world.specs.WorldStands.{ReplicaStands, EncodesRecord, WorldStands, Stepped, message_kept}
 use Rattle.warm_world.specs.WorldStands.{view_shape}
-use Rattle.warm_world.proofs.Messages.{messages_join, encodes_kept}
-use Rattle.warm_world.proofs.Histories.{answer_records, history_after_reach}
-use Rattle.warm_world.proofs.Pairs.{Pairwise-nil, Pairwise-of}
-use Rattle.warm_world.proofs.Worlds.{named_too, node_at, place_in, replica_changes, stands_at, world}
+use Rattle.warm_world.proofs.MessageLemmas.{messages_join, encodes_kept}
+use Rattle.warm_world.proofs.HistoryLemmas.{answer_records, history_after_reach}
+use Rattle.warm_world.proofs.PairLemmas.{Pairwise-nil, Pairwise-of}
+use Rattle.warm_world.proofs.WorldLemmas.{named_too, node_at, place_in, replica_changes, stands_at, world}
 
 -- entries are answered by nothing
 unanswered : (id sender horizon : ℕ) (h : HistoryView) (es : List Entry) (message : Message)

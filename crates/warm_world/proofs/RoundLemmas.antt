@@ -24,8 +24,8 @@ use Rattle.warm_world.specs.GossipAnswers.{AreAnswers, reach_after}
 use Rattle.warm_world.specs.Effects.{Next, Run, Delivered, IsNamed, shape}
 use Rattle.warm_world.specs.WorldStands.{message_kept}
 use Rattle.std.proofs.Math.Nat.{le_refl}
-use Rattle.warm_world.proofs.Histories.{asking_or_none, offer_record, offered_kept, history_after_reach, wanted_kept}
-use Rattle.warm_world.proofs.Worlds.{replica_set_at}
+use Rattle.warm_world.proofs.HistoryLemmas.{asking_or_none, offer_record, offered_kept, history_after_reach, wanted_kept}
+use Rattle.warm_world.proofs.WorldLemmas.{replica_set_at}
 use Rattle.warm_world.proofs.WidthLemmas.{histories_fit}
 use Rattle.warm_world.specs.Rounds.{IsNotRefused, NoneRefused, deliveries, new_messages_to, GossipRound, known_to, AreJoined, GossipRoundJoins}
 

@@ -24,7 +24,7 @@ use Rattle.warm_world.specs.Effects.{NodeReplies, IsNamed, Next, Run, shape}
 use Rattle.warm_world.specs.WorldStands.{ReplicaStands, WorldStands}
 use Rattle.warm_world.specs.Rounds.{IsNotRefused}
 use Rattle.warm_world.specs.WarmUps.{ArePools, PoolsDiffer, WarmUpLoads}
-use Rattle.warm_world.proofs.Worlds.{replica_set_at}
+use Rattle.warm_world.proofs.WorldLemmas.{replica_set_at}
 
 -- ---- one step
 

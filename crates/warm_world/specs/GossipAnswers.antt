@@ -41,7 +41,7 @@ refs_of (Request sender horizon request) = record { horizon = horizon; given = [
 abbrev pub reach_after : ReferenceSet → MessageRecord → ReferenceSet
 reach_after S kept = S ∪ refs_of kept
 
--- The answer of replica i to a message, where S has reached it after it received the message:
+-- The answer of replica i to a message. S is what has reached it after it received the message:
 -- nothing to references; to a request its references of these buckets; to digests those of the
 -- buckets whose digests differ, and then a request for these.
 abbrev pub AreAnswers : ℕ → ReferenceSet → MessageRecord → List MessageRecord → Type 0

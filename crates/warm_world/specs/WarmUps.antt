@@ -29,7 +29,7 @@ PoolsDiffer m = (i : ℕ) → PagesDiffer (pool_of m i)
 abbrev pub ShowsPoolsDiffer : WorldView → Type 0
 ShowsPoolsDiffer w = (m : ModelState) → WorldStands w m → PoolsDiffer m
 
--- Where no page of the replica is pinned: after a warm-up without a refusal, every page of the
+-- If no page of the replica is pinned, then after a warm-up without a refusal every page of the
 -- warm-up list, cut to the frames of the pool, that a device has is resident.
 abbrev pub WarmUpLoads : Type 0
 WarmUpLoads = (i : ℕ) (old new : ModelState) → PoolsDiffer old → IsUnfixed (pool_of old i)

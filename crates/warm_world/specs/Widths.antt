@@ -53,6 +53,6 @@ abbrev pub RunsFit : Type 0
 RunsFit = (old : ModelState) (events : List Event) (answers : List Answer) (new : ModelState)
     → ModelFits old → AllByRecursion EventFits events → Run old events answers new → ModelFits new
 
--- where a model state's numbers are within their widths, so are those of each replica's history
+-- if a model state's numbers are within their widths, so are those of each replica's history
 abbrev pub HistoriesFit : Type 0
 HistoriesFit = (m : ModelState) (i : ℕ) → ModelFits m → Fits (history (reach_of m i))

@@ -125,8 +125,8 @@ impl<D: PageDevice> World<D> {
             return Ok(Answer::Took { count: 0, first: 0 });
         }
         let answers = self.replicas[at].node.answers(&message)?;
-        // The horizon rises only after the answers are stored, so nothing has happened where
-        // storing one fails.
+        // The horizon rises only after the answers are stored, so nothing has happened if storing
+        // one fails.
         let answer = store_answers(self.alloc, &mut self.messages, answers.as_slice())?;
         self.replicas[at].node.raise(message.horizon());
         Ok(answer)

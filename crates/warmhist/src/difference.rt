@@ -22,7 +22,7 @@ fn has(known: &Option<PageHist>, stamp: &Stamp) -> bool {
     }
 }
 
-// Writes the line of a page of the join, where the history that is `known` lacks a stamp of it: the
+// Writes the line of a page of the join, if the history that is `known` lacks a stamp of it: the
 // stamps that it lacks. Gives whether it wrote one.
 fn put_unknown<W: Write>(
     writer: &mut W,
@@ -50,7 +50,7 @@ fn put_unknown<W: Write>(
     Ok(begun)
 }
 
-// The line of a horizon that is later than the other. `false` where it is not.
+// The line of a horizon that is later than the other. `false` if it is not.
 fn put_horizon<W: Write>(writer: &mut W, sign: char, own: u64, other: u64) -> io::Result<bool> {
     if own <= other {
         return Ok(false);

@@ -1,4 +1,4 @@
-//! What a text has to say at a place where it says something else.
+//! What a text has to say at a place, and does not.
 
 use crate::text_reader::MAX_TEXT_LINE;
 use std::fmt::{self, Display, Formatter, Write};

@@ -124,7 +124,7 @@ fn status_of(rt: &HostRuntime, asked: &HistCommand<'_>) -> u8 {
     match done(rt, asked) {
         Ok(status) => status,
         Err(failure) => {
-            // Where standard error takes nothing, the status is all that is left to say.
+            // If nothing can be written to standard error, the status is all that is left to say.
             let _ = report(rt, &failure);
             TROUBLE
         }
@@ -136,7 +136,7 @@ fn no_memory(rt: &HostRuntime) -> u8 {
     TROUBLE
 }
 
-// clap's text, and the status: that of help is 0 where it could be written.
+// clap's text, and the status: that of help is 0 if it could be written.
 fn print_clap(rt: &HostRuntime, error: &clap::Error) -> u8 {
     if error.kind() == clap::error::ErrorKind::OutOfMemory {
         return no_memory(rt);

@@ -36,7 +36,7 @@ impl<'a> Progress<'a> {
         }
         self.due = bytes.saturating_add(STEP);
         let name = self.name;
-        // Nothing is lost where it cannot be shown.
+        // Nothing is lost if it cannot be shown.
         let _ = eprint!(self.rt; "\rwarmhist: {name}: {} MB", bytes / MEGABYTE);
     }
 

@@ -79,7 +79,7 @@ fn stamp_in(word: &[u8]) -> Result<Stamp, Expected> {
     }
 }
 
-// The stamps of a page: behind `last`, and behind `prev` where that is there.
+// The stamps of a page: behind `last`, and behind `prev` if that is there.
 fn stamps_in(words: &[u8]) -> Result<(Stamp, Option<Stamp>), Expected> {
     let (word, rest) = next_word(after(words, b"last".as_slice(), Expected::Last)?);
     let last = stamp_in(word)?;

@@ -77,7 +77,7 @@ fn put_dump<'a, W: Write>(
 // What a draft is numbered by.
 fn drawn_number(rt: &HostRuntime) -> u64 {
     let mut bytes = [0u8; 8];
-    // Without random bytes it is 0: a draft takes another name where that is not free.
+    // Without random bytes it is 0: a draft takes another name if that one is not free.
     let _ = rt.fill_bytes(&mut bytes);
     u64::from_be_bytes(bytes)
 }

@@ -28,8 +28,8 @@ const OUTPUT_BUFFER_SIZE: usize = 65536;
 const STACK_SIZE: usize = 262_144;
 
 // Uses the stack once, before anything else takes memory. The system gives a program its stack as
-// it is used, and where no address space is left for it ends the program by a signal. A call of its
-// own, so that the program has this room below it afterwards.
+// it is used. If no address space is left for it, the system ends the program by a signal. A call
+// of its own, so that the program has this room below it afterwards.
 #[inline(never)]
 fn take_stack(rt: &HostRuntime) {
     let room = [0u8; STACK_SIZE];
@@ -55,7 +55,7 @@ fn parse_command(rt: &HostRuntime) -> Result<Cmd, ProgramFault> {
     command_of(rt.alloc(), words.as_slice()).map_err(ProgramFault::Command)
 }
 
-// The setup and the devices of the file, or the defaults where there is none.
+// The setup and the devices of the file, or the defaults if there is none.
 fn setup_in(
     rt: &HostRuntime,
     file: Option<PathText>,
@@ -96,7 +96,7 @@ fn in_memory(alloc: Global, pages: u32, page_size: usize) -> Result<DeviceBox, P
     Ok(DeviceBox::Memory(device))
 }
 
-// A device over the file of the replica, which is named where it cannot be opened.
+// A device over the file of the replica, which is named if it cannot be opened.
 fn in_file(
     rt: &HostRuntime,
     pages: u32,
@@ -177,7 +177,7 @@ fn play_over<T: Threads + Wait + Sync, R: Read>(
     played.map_err(ProgramFault::Play)
 }
 
-// Plays the file, or standard input where there is none.
+// Plays the file, or standard input if there is none.
 fn run_play<T: Threads + Wait + Sync>(
     rt: &HostRuntime,
     threads: &T,
@@ -238,8 +238,8 @@ fn run<T: Threads + Wait + Sync>(rt: &HostRuntime, threads: &T) -> Result<(), Pr
     }
 }
 
-// Prints clap's own text where there is one. An error where help was requested and could not be
-// written; where the text of a refusal could not be, only the status reports it.
+// Prints clap's own text, if there is one. An error if help was requested and could not be written.
+// If the text of a refusal could not be written, only the status reports it.
 fn print_help(rt: &HostRuntime, ended: &Result<(), ProgramFault>) -> Result<(), PlayFault> {
     let Err(ProgramFault::Command(CmdFault::Refused(error))) = ended else {
         return Ok(());
@@ -257,7 +257,7 @@ fn main(rt: HostRuntime) -> ExitCode {
         ended = Err(ProgramFault::Play(fault));
     }
     let outcome = outcome_of(&ended);
-    // Where writing to standard error fails, only the status reports the fault.
+    // If writing to standard error fails, only the status reports the fault.
     let _ = outcome.line.write_to(&mut rt.stderr());
     ExitCode::from(outcome.status)
 }

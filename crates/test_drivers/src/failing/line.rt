@@ -43,7 +43,7 @@ pub enum PoolCall {
 pub struct Made {
     /// The number of its pages.
     pub pages: u64,
-    /// The number of the call that fails, counted from 1, or 0 where none does.
+    /// The number of the call that fails, counted from 1, or 0 if none does.
     pub call: u64,
 }
 
@@ -51,7 +51,7 @@ pub struct Made {
 /// and its devices, followed by the spare ones.
 ///
 /// # Errors
-/// Where the line is not of this form, or an allocation fails.
+/// If the line is not of this form, or an allocation fails.
 pub fn opening_in(alloc: Global, line: &str) -> Result<(u32, Vec<Made>)> {
     let mut words = line.split_whitespace();
     let frames = number(words.next())?;
@@ -79,7 +79,7 @@ fn number(word: Option<&str>) -> Result<u64> {
 /// The call of a line.
 ///
 /// # Errors
-/// Where the line is not one of those above.
+/// If the line is not one of those above.
 pub fn asked_in(line: &str) -> Result<PoolCall> {
     let mut words = line.split_whitespace();
     let word = words.next().context("a line has a word")?;

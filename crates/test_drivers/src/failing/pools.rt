@@ -25,7 +25,7 @@ pub type Failing = Flaky<MemDevice>;
 /// A pool over two devices, without a page.
 ///
 /// # Errors
-/// Where it is refused.
+/// If it is refused.
 pub fn opened(alloc: Global, frames: u32, first: Failing, second: Failing) -> Result<Pool<Failing>>
     ensures { IfOk result (λ pool. IsRankedByAll pool) }
 {
@@ -44,7 +44,7 @@ pub fn opened(alloc: Global, frames: u32, first: Failing, second: Failing) -> Re
 /// prints the results. The spare devices are taken from the end.
 ///
 /// # Errors
-/// Where a line is not a call, or printing fails.
+/// If a line is not a call, or printing fails.
 pub fn ask_all(
     rt: &impl Print,
     pool: Pool<Failing>,
@@ -224,7 +224,7 @@ fn retire(
     }
 }
 
-// Closes the pool, or gives it back where that is refused.
+// Closes the pool, or gives it back if that is refused.
 fn closed(rt: &impl Print, pool: Pool<Failing>, history: &History) -> Result<Option<Pool<Failing>>>
     requires { RankedBy pool history.now }
     ensures { IfOk result (λ kept. IfSome kept (λ pool. RankedBy pool history.now)) }

@@ -50,7 +50,7 @@ fn set_of_two(contest: &mut Contest, slot: usize, key: Option<RankKey>)
     contest.set(slot, key);
 }
 
-// Sets the key of one of two slots, where it is less.
+// Sets the key of one of two slots, if it is less.
 fn lower_of_two(contest: &mut Contest, slot: usize, key: Option<RankKey>)
     requires two { length contest.old ≡ 2 }
     requires one { slot < 2 }

@@ -85,7 +85,7 @@ fn of_one_bucket<P: Print>(
     is_read(rt, met, alloc, &text, 3000, "read_dump")
 }
 
-// 64 pages in each bucket but the last, and 4000 in that one: its four full frames come where an
+// 64 pages in each bucket but the last, and 4000 in that one: its four full frames come when an
 // eighth of the history is about one frame, and the whole history more than four.
 fn of_all_buckets<P: Print>(
     rt: &P,

@@ -22,7 +22,7 @@ type Thread = Attached<MemDevice>;
 
 const MEMORY: SharedFault = SharedFault::Node(NodeFault::Memory);
 
-// The shards, of which none is behind a turn. Where they are refused, they are given back.
+// The shards, of which none is behind a turn. If they are refused, they are given back.
 fn sharing(met: &mut Met, alloc: Global, shards: TwoShards) -> Result<Sharing<MemDevice>, Ended> {
     let back = match Sharing::new(alloc, shards) {
         Ok(sharing) => return Ok(sharing),
@@ -35,8 +35,7 @@ fn sharing(met: &mut Met, alloc: Global, shards: TwoShards) -> Result<Sharing<Me
     }
 }
 
-// The shards behind turns. Where one is refused, all are given back, and are shared at the second
-// try.
+// The shards behind turns. If one is refused, all are given back, and are shared at the second try.
 fn shared(met: &mut Met, sharing: Sharing<MemDevice>) -> Result<(Shared, Thread), Ended>
     ensures { IfOk result (λ made. AreOf made.0 made.1.passes) }
 {
@@ -75,7 +74,7 @@ fn attach(met: &mut Met, alloc: Global, shared: &Shared, thread: &mut Thread) ->
     )
 }
 
-// The number of entries that are sent of a bucket. It is asked again where memory is refused.
+// The number of entries that are sent of a bucket. It is asked again if memory is refused.
 fn known_in<R: Wait>(
     met: &mut Met,
     rt: &R,
@@ -255,7 +254,7 @@ fn publish<R: Wait>(
 }
 
 // Entries of the pages 8 and 9, one of each shard, at the horizon 15, which drops what was known.
-// Where they are refused, the shards before that one have taken theirs in.
+// If a shard refuses its entries, the shards before it have taken theirs in.
 fn receive<R: Wait>(
     met: &mut Met,
     rt: &R,
@@ -290,8 +289,8 @@ fn receive<R: Wait>(
     met.holds(are_dropped, "what is older than the horizon is dropped")
 }
 
-// A history of the pages 64 and 65, one of each shard, is joined. Where it is refused, the shards
-// before that one have taken theirs in.
+// A history of the pages 64 and 65, one of each shard, is joined. If a shard refuses its part, the
+// shards before it have taken theirs in.
 fn join<R: Wait>(
     met: &mut Met,
     rt: &R,
@@ -453,7 +452,7 @@ fn ask<R: Wait>(
     met.holds(is_unchanged, "a question changes nothing of shared shards")
 }
 
-// Closes the shards. Where they are refused, they are given back, and are closed at the second try.
+// Closes the shards. If they are refused, they are given back, and are closed at the second try.
 fn close(met: &mut Met, alloc: Global, shared: Shared, thread: Thread) -> Result<(), Ended>
     requires { AreOf shared thread.passes }
 {

@@ -17,8 +17,7 @@ use warm_replica::{
 use warm_stamps::{BUCKETS, ByteList, ReplicaId};
 use warm_turn::{Memory, Pass, Turn};
 
-// A turn over the node. Where it is refused, the node is given back, and is shared at the second
-// try.
+// A turn over the node. If it is refused, the node is given back, and is shared at the second try.
 fn shared(
     met: &mut Met,
     alloc: Global,
@@ -126,7 +125,7 @@ fn replies_to<R: Threads + Wait + Sync>(
     Ok(run_workers(rt, alloc, replica, pass, all, &NoGate))
 }
 
-// The replies of a job, one for each step. Where the list is refused, they are given back, and are
+// The replies of a job, one for each step. If the list is refused, they are given back, and are
 // listed at the second try.
 fn listed(met: &mut Met, alloc: Global, replies: Replies) -> Result<Vec<StepReply>, Ended> {
     let back = match replies.into_vec(alloc) {
@@ -162,7 +161,7 @@ fn refused_in(met: &mut Met, alloc: Global, replies: Vec<Replies>) -> Result<usi
     Ok(refused)
 }
 
-// Runs the jobs; where one is refused, or a thread can't be started, again.
+// Runs the jobs; if one is refused, or a thread can't be started, again.
 fn run<R: Threads + Wait + Sync>(
     met: &mut Met,
     rt: &R,

@@ -24,8 +24,7 @@ fn lists_of<D: PageDevice>(alloc: Global, first: D, second: D) -> Result<Vec<Vec
     Ok(lists)
 }
 
-// A world of two replicas with a buffer of two and two frames each, or none where an allocation
-// fails.
+// A world of two replicas with a buffer of two and two frames each, or none if an allocation fails.
 fn over(
     met: &mut Met,
     alloc: Global,
@@ -270,7 +269,7 @@ fn finish(met: &mut Met, world: &mut World<MemDevice>) -> Result<bool, Ended> {
     Ok(true)
 }
 
-// A world that executes all events, and is finished; or none, where making the world is refused.
+// A world that executes all events, and is finished; or none, if making the world is refused.
 fn live(met: &mut Met, alloc: Global, life: Life) -> Result<bool, Ended> {
     let Some(mut world) = over(met, alloc, memory(alloc, 80)?, memory(alloc, 80)?)? else {
         return Ok(false);

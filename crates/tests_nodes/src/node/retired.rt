@@ -17,7 +17,7 @@ fn refused(answer: Result<(), RetireError<MemDevice>>) -> Option<PoolFault> {
     }
 }
 
-// The page that a step of the warm-up loads; none where it is refused.
+// The page that a step of the warm-up loads; none if it is refused.
 fn loads(node: &mut Node<MemDevice>) -> Option<PageId> {
     match node.warm_step() {
         Ok(loaded) => loaded,

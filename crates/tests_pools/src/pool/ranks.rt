@@ -49,8 +49,8 @@ fn leaves_after(pool: &mut Pool<MemDevice>, history: &History, named: &[PageId])
 }
 
 // Three pages are loaded that were never referenced, so the one of the least number is evicted
-// first. A named page has the rank that the history gives it, also where those of the others are
-// not yet up to date, and a page that is not resident may be named.
+// first. A named page has the rank that the history gives it, even if those of the others are not
+// yet up to date, and a page that is not resident may be named.
 #[test]
 fn only_named_pages_get_their_new_ranks(rt: HostRuntime) {
     let alloc = rt.alloc();

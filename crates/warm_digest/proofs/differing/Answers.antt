@@ -7,7 +7,7 @@ use Rattle.warm_stamps.proofs.BucketLemmas.{Visited, visited, all_visited, seen_
 use Rattle.warm_frames.specs.Digests.{digest_at}
 use Rattle.warm_digest.proofs.differing.Goals as goal
 
--- two digests differ where the test says so
+-- two digests differ if the test says so
 differ : (x y : List ℕ) (b : Bool) → b ≡ not (bytes_eq x y) → b ≡ true → x ≢ y
 differ x y b is set same = true≢false (sym set ∙ is ∙ ap not ((bytes_eq-Decides x y).1 same))
 

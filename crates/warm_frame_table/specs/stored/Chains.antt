@@ -35,7 +35,7 @@ chain_of n (Some page) = hash_of page * n / 0x100000000
 abbrev pub chains_of : List (Option PageId) → List ℕ
 chains_of pages = map (chain_of (length pages)) pages
 
--- the first frame of a chain from a frame on, or the number of frames where there is none
+-- the first frame of a chain from a frame on, or the number of frames if there is none
 pub record IsFirstFrom (frames : List ℕ) (chain from at : ℕ) : Type 0 where
   pub low : from ≤ at
   pub high : at ≤ length frames
@@ -51,7 +51,7 @@ pub record AreChains (frames heads next : List ℕ) : Type 0 where
   pub next_are : (frame : ℕ) → frame < length frames → slice_index frames frame < length heads
       → IsFirstFrom frames (slice_index frames frame) (suc frame) (slice_index next frame)
 
--- the number of the frame after the given one, or 0 where none is given
+-- the number of the frame after the given one, or 0 if none is given
 abbrev pub after : Option ℕ → ℕ
 after None = 0
 after (Some frame) = suc frame
@@ -61,7 +61,7 @@ abbrev pub IsOf : List ℕ → ℕ → Option ℕ → Type 0
 IsOf frames chain None = Unit {0}
 IsOf frames chain (Some frame) = (frame < length frames) × (slice_index frames frame ≡ chain)
 
--- the last frame of a chain before a frame; none where there is none
+-- the last frame of a chain before a frame; none if there is none
 pub record IsPredecessor (frames : List ℕ) (chain frame : ℕ) (last : Option ℕ) : Type 0 where
   pub below : after last ≤ frame
   pub is_of : IsOf frames chain last
@@ -72,14 +72,14 @@ abbrev pub link_after : List ℕ → List ℕ → ℕ → Option ℕ → ℕ
 link_after heads next chain None = slice_index heads chain
 link_after heads next chain (Some frame) = slice_index next frame
 
--- the heads, after the link behind `last` was set to a frame: it is the chain's head where `last`
--- is none
+-- the heads, after the link behind `last` was set to a frame: it is the chain's head if `last` is
+-- none
 abbrev pub heads_with_link : List ℕ → ℕ → Option ℕ → ℕ → List ℕ
 heads_with_link heads chain None to = set heads chain to
 heads_with_link heads chain (Some frame) to = heads
 
--- the frames' links, after the link behind `last` was set to a frame: they are unchanged where
--- `last` is none
+-- the frames' links, after the link behind `last` was set to a frame: they are unchanged if `last`
+-- is none
 abbrev pub next_with_link : List ℕ → Option ℕ → ℕ → List ℕ
 next_with_link next None to = next
 next_with_link next (Some frame) to = set next frame to

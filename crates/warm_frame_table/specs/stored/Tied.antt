@@ -10,8 +10,8 @@ use Rattle.warm_frame_table.specs.Frames.{FrameState, nth_frame, eviction_key}
 use Rattle.warm_frame_table.specs.stored.Parts.{FrameBody, frames_of}
 
 -- What the contest knows of a frame may lag behind: the slot's key is at most the rank with which
--- the page competes, where no key is the greatest. A key that the slot has is at most the page's
--- rank, pinned or not.
+-- the page competes. A missing key counts as the greatest. A key that the slot has is at most the
+-- page's rank, pinned or not.
 pub record LagsBehind (key : Option RankKey) (f : FrameState) : Type 0 where
   pub competes : is_gt (set_first_cmp key_cmp key (eviction_key f)) ≡ false
   pub ranked : (key ≡ None) ⊎ (is_gt (set_first_cmp key_cmp key f.key) ≡ false)

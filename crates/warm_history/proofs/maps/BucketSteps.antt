@@ -142,7 +142,7 @@ records_tell old new page p more (Some k) records = λ same.
     let now : found p new ≡ Some records.0 = ap (found p) records.2 ∙ found_inserted p records.0 old in
     records.3.2 (records.3.1 ∙ sym same ∙ now)
 
--- ---- what holds of a result where it is Ok, and whichever it is
+-- ---- what holds of a result if it is Ok, and in any case
 
 pub ok_then : {A E : Type 0} (r : Result A E) (P : A → Type 0) (Q : Type 0) → ((a : A) → P a → Q)
     → IfOk r P → OnOk r Q

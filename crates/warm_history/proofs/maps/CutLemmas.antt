@@ -132,7 +132,7 @@ pub joined_left : (m : ℕ) (ms : List MapPairs)
 joined_left m [] = refl
 joined_left m (x ∷ ms) = ap (λ t. cut_at m x ++ t) (joined_left m ms) ∙ sym (filter_map-append (cut_pair m) x (all_pairs ms))
 
--- all buckets are cut where each of their two maps is
+-- all buckets are cut if each of their two maps is
 module _ (h : ℕ) where
   pub cut_maps : (b : ℕ) (ms ns : List BucketMap) → near_pairs ns ≡ map (cut_at h) (near_pairs ms)
       → far_pairs ns ≡ map (cut_at h) (far_pairs ms) → AreMapsOf b ms

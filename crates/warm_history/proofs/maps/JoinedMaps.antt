@@ -149,7 +149,7 @@ joined_fulls h b (m ∷ ms) (n ∷ ns) (r ∷ rs) near far are also none long fe
       ap suc rest.2,
     )
 
--- where nothing was merged
+-- if nothing was merged
 pub kept_fulls : (b : ℕ) (ms ns : List BucketMap) → near_pairs ns ≡ near_pairs ms
     → far_pairs ns ≡ far_pairs ms → AreMapsOf b ms
     → (fulls b ns ≡ fulls b ms) × AreMapsOf b ns × (length ns ≡ length ms)

@@ -62,7 +62,7 @@ from_first k is = omega arith
 pub below_next : (k : ℕ) → IsMapKey k → k < first_key (page_bucket (page_of_key k) + 1)
 below_next k is = omega (arith, no_below k, dev_below k)
 
--- keys are the same where their pages are
+-- keys are the same if their pages are
 pub same_key : (j k : ℕ) → IsMapKey j → IsMapKey k
     → is_eq (nat_cmp j k) ≡ is_eq (page_cmp (page_of_key k) (page_of_key j))
 same_key j k is_j is_k = cases (is_eq (page_cmp (page_of_key k) (page_of_key j))) refl

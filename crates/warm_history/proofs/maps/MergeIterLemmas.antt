@@ -24,7 +24,7 @@ merge_none (x ∷ xs) = refl
 
 -- ---- one entry taken
 
--- where the first of the second list is to come, it is taken from there
+-- if the first of the second list is to come, it is taken from there
 pub takes_other : (xs ys : List Entry) → is_later (first_of xs) (first_of ys) ≡ true
     → merge xs (rest_of ys) ≡ rest_of (merge xs ys)
 takes_other [] [] is = let no : false ≡ true = is in absurd (cc)
@@ -52,7 +52,7 @@ second_least : (e : Entry) (xs ys : List Entry) → AllAbove e.page xs
 second_least e [] ys above = refl
 second_least e (x ∷ xs) ys above = let yes : is_gt (page_cmp x.page e.page) ≡ true = ap is_gt (flipped page_cmp page_order e.page x.page Less above.0) in rw yes refl
 
--- of the three tests the third is passed where one of the others is, which are never passed both
+-- the third test is passed exactly if one of the other two is, and these two are never both passed
 abbrev pub AreParts : (p q r : Entry → Bool) → Type 0
 AreParts p q r = (e : Entry) → ((p e ≡ true) × (q e ≡ false) × (r e ≡ true)) ⊎ ((p e ≡ false) × (q e ≡ r e))
 

@@ -457,7 +457,7 @@ same_removed old m m' left rest e is none now same q away = now q ∙ cases (is_
             absurd (cc)
         turned false at = at
 
--- where all are out, the pairs are as before
+-- if all are out, the pairs are as before
 pub all_out : (old m left : MapPairs) → KeysAscend m → KeysAscend old → left ≡ []
     → SameElsewhere left old m → m ≡ old
 all_out old m left rise_m rise_old none same = same_found m old rise_m rise_old (λ q. same q (ap (found q) none))

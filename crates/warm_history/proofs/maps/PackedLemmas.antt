@@ -5,7 +5,7 @@ use Rattle.warm_stamps.specs.declared.Stamp.{Stamp}
 use Rattle.warm_history.specs.declared.hist.PageHist.TheVariants.{Once, Twice}
 use Rattle.warm_history.specs.maps.PackedHists.{unpacked}
 
--- where the second stamp has a replica, both stamps are there
+-- if the second stamp has a replica, both stamps are there
 pub two_unpacked : (last prev : Stamp) → prev.replica ≢ 0
     → unpacked last prev ≡ Twice (record { last = last; prev = prev })
 two_unpacked last prev some = cases (prev.replica == 0) refl

@@ -24,7 +24,7 @@ told_recent : (m p : ℕ) (more : PageHist) (ss : List Stamp)
     ≡ map (λ s. record { page = page_of_key p; stamp = s }) ss
 told_recent m p more ss is = recent_entry m (page_of_key p) (hist_stamps more) ∙ ap (map (λ s. record { page = page_of_key p; stamp = s })) (sym is)
 
--- where none is left
+-- if none is left
 pub takes_none : (m : ℕ) (old : MapPairs) (p : ℕ) (more : PageHist) → AreKept old
     → [] ≡ filter (is_kept m) (hist_stamps more) → TakesRecent m old p more old
 takes_none m old p more are none =
@@ -32,7 +32,7 @@ takes_none m old p more are none =
     ∙ ap list_history (sym (append-nil (list_references_of (kept old))))
     ∙ ap (λ rs. list_history (list_references_of (kept old) ++ rs)) (sym (told_recent m p more [] none))
 
--- where some are
+-- if some are
 pub takes_some : (m : ℕ) (old new : MapPairs) (p : ℕ) (more left : PageHist)
     → hist_stamps left ≡ filter (is_kept m) (hist_stamps more) → TakesStamps old p left new
     → TakesRecent m old p more new

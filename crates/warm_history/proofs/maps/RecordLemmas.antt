@@ -18,7 +18,7 @@ use Rattle.warm_history.specs.maps.BucketMaps.{RecordsAt}
 use Rattle.warm_history.specs.maps.Undo.{put_back_at}
 
 module _ {K : Type 0} (cmp : K → K → Ordering) where
-  -- a value is not restored where there is none
+  -- a value is not restored if there is none
   absent_value : (p : K) (h : PageHist) (pairs : List (K × PageHist))
       → lookup (is_at (cmp p)) pairs ≡ None → set_value (is_at (cmp p)) pairs h ≡ pairs
   absent_value p h [] none = refl

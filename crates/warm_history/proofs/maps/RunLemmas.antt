@@ -221,7 +221,7 @@ are_keys m from to (e ∷ es) rise = cases (latest_of (filter (is_kept m) (hist_
     cases None all = all
     cases (Some h) all = (ap key_of_page rise.2, all)
 
--- a bucket changes where something else is found at a key of the run
+-- a bucket changes if something else is found at a key of the run
 changes_in : (number : ℕ) (old run new : MapPairs) → AreKept old → AreKept new
     → AllByRecursion (λ (e : ℕ × PageHist). LiesIn number e.0) run → AreKeys run
     → DiffersAt run old new → bucket_entries number (kept new) ≢ bucket_entries number (kept old)

@@ -32,7 +32,7 @@ abbrev pub AreBuckets : ℕ → List MapPairs → Type 0
 AreBuckets bucket [] = ⊤
 AreBuckets bucket (m ∷ ms) = AllByRecursion (λ e. LiesIn bucket e.0) m × AreBuckets (bucket + 1) ms
 
--- the map of number i, or no pairs where there is none
+-- the map of number i, or no pairs if there is none
 abbrev pub map_at : List MapPairs → ℕ → MapPairs
 map_at [] i = []
 map_at (m ∷ ms) zero = m
@@ -67,7 +67,7 @@ KeysAscend pairs = IsAscending (on (λ e. e.0) nat_cmp) pairs
 abbrev pub found : ℕ → MapPairs → Option PageHist
 found key pairs = lookup (is_at (nat_cmp key)) pairs
 
--- the note is of the page and gives the pairs' old value at the key, where h is the new one and
+-- the note is of the page and gives the pairs' old value at the key, if h is the new one and
 -- differs; without a note the pairs are unchanged
 abbrev pub IsNoteAt : {K : Type 0} → (K → K → Ordering) → Option UndoNote → PageId → K → PageHist
     → List (K × PageHist) → List (K × PageHist) → Type 0
@@ -90,7 +90,7 @@ abbrev pub ChangesAt : {K : Type 0} → (K → K → Ordering) → List (K × Pa
 ChangesAt cmp old key more change before new = (page : PageId)
     → RecordsAt cmp old page key more (noted page change before) new
 
--- the note gives the old value at a key that is a number, where that has changed
+-- the note gives the old value at a key that is a number, if that has changed
 abbrev pub IsUndoNote : Option UndoNote → PageId → ℕ → PageHist → MapPairs → MapPairs → Type 0
 IsUndoNote note page key h old new = IsNoteAt nat_cmp note page key h old new
 

@@ -35,19 +35,19 @@ is_later a None = false
 is_later None (Some y) = true
 is_later (Some x) (Some y) = is_gt (page_cmp x.page y.page)
 
--- `merge (x ∷ xs)`, where `after` is `merge xs`
+-- `merge (x ∷ xs)`; `after` is `merge xs`
 abbrev pub merge_at : Entry → List Entry → (List Entry → List Entry) → List Entry → List Entry
 merge_at x xs after [] = x ∷ xs
 merge_at x xs after (y ∷ ys) =
     cond (is_gt (page_cmp x.page y.page)) (y ∷ merge_at x xs after ys) (x ∷ after (y ∷ ys))
 
--- the entries of both lists, merged: the first entry of the second list is taken only where its
--- page is smaller
+-- the entries of both lists, merged: the first entry of the second list is taken only if its page
+-- is smaller
 abbrev pub merge : List Entry → List Entry → List Entry
 merge [] = λ ys. ys
 merge (x ∷ xs) = merge_at x xs (merge xs)
 
--- the first entry and those that follow it; where there is none, nothing follows
+-- the first entry and those that follow it; if there is none, nothing follows
 abbrev pub from_first : Option Entry → List Entry → List Entry
 from_first None later = []
 from_first (Some e) later = e ∷ later

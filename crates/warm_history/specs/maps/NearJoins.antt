@@ -16,14 +16,14 @@ use Rattle.warm_history.specs.maps.Cuts.{cut_at}
 use Rattle.warm_history.specs.maps.Runs.{with_pairs}
 use Rattle.warm_history.specs.maps.Walks.{AddsPart, AreAbsent, DiffersAt, merged}
 
--- a pair is passed where the horizon leaves nothing of its value, and is added otherwise
+-- a pair is passed if the horizon leaves nothing of its value, and is added otherwise
 abbrev pub AddsLeft : Option PageHist → Option PageHist → ℕ → MapPairs → MapPairs → MapPairs
     → MapPairs → Type 0
 AddsLeft None known key changed fresh changed' fresh' = (changed' ≡ changed) × (fresh' ≡ fresh)
 AddsLeft (Some more) known key changed fresh changed' fresh' =
     AddsPart known key more changed fresh changed' fresh'
 
--- the pairs now are those of old with new ones put in; where old has none, they need no list
+-- the pairs now are those of old with new ones put in; if old has none, no list is needed
 abbrev pub ArePutIn : Bool → MapPairs → MapPairs → MapPairs → Type 0
 ArePutIn true fresh old now = old ≡ []
 ArePutIn false fresh old now = AreAbsent fresh old × (now ≡ with_pairs old fresh)
@@ -73,7 +73,7 @@ abbrev pub KeepsIn : ℕ → MapPairs → MapPairs → Type 0
 KeepsIn bucket old new = (test : ℕ → Bool) → PassesIn bucket test
     → filter (λ e. test e.0) new ≡ filter (λ e. test e.0) old
 
--- a bucket is in the set exactly where its pairs change
+-- a bucket is in the set exactly if its pairs change
 abbrev pub TellsBuckets : ℕ → MapPairs → MapPairs → Type 0
 TellsBuckets set old new = (bucket : ℕ) → bucket < BUCKETS
     → (bit_at set bucket ≡ 1 → DiffersIn bucket old new)

@@ -1,5 +1,5 @@
 -- The history of a page in four numbers: two times and two replica numbers. The second replica
--- number is 0, and the second time with it, where the page has only one stamp.
+-- number is 0, and the second time with it, if the page has only one stamp.
 use Rattle.std.specs.Prelude.{◌≡◌, ℕ, ◌==◌, ◌≤◌, Bool, true, false, cond}
 use Rattle.std.proofs.Common.{sym, refl}
 use Rattle.std.proofs.lemmas.Bool.{eqb-true}
@@ -11,7 +11,7 @@ use Rattle.warm_stamps.specs.Stamps.{stamp_at, stamp_cmp}
 use Rattle.warm_history.specs.declared.hist.PageHist.{PageHist}
 use Rattle.warm_history.specs.declared.hist.PageHist.TheVariants.{Once, Twice}
 
--- the history of these two stamps, or of the first alone where the second has no replica
+-- the history of these two stamps, or of the first alone if the second has no replica
 abbrev pub unpacked : Stamp → Stamp → PageHist
 unpacked last prev =
     cond (prev.replica == 0) (Once last) (Twice (record { last = last; prev = prev }))
@@ -26,8 +26,8 @@ abbrev pub prev_of : PageHist → Stamp
 prev_of (Once last) = stamp_at 0 0
 prev_of (Twice two) = two.prev
 
--- what is true of the two stamps: the second is older than the first, and has the time 0 where it
--- has no replica
+-- what is true of the two stamps: the second is older than the first, and has the time 0 if it has
+-- no replica
 pub record ArePacked (last prev : Stamp) : Type 0 where
   pub last_replica : IsReplica last.replica
   pub prev_replica : prev.replica ≤ MAX_REPLICAS

@@ -118,7 +118,7 @@ impl BucketMap {
     }
 
     // Takes in a run of near pairs of this bucket, whose number this is, and returns whether that
-    // changes the pairs. Where an allocation fails, it changes nothing.
+    // changes the pairs. If an allocation fails, it changes nothing.
     pub(crate) fn merge(
         &mut self,
         alloc: Global,
@@ -198,7 +198,7 @@ impl BucketMap {
     }
 }
 
-// A page, and its history as a map lends it: in 24 bytes, where an entry has 56.
+// A page, and its history as a map lends it: in 24 bytes; an entry has 56.
 #[derive(Clone, Copy)]
 pub(crate) struct Lent<'a> {
     pub(crate) page: PageId,

@@ -131,7 +131,7 @@ impl BucketMaps {
     }
 
     // Takes in a run of near pairs of the bucket of this number, and returns whether that changes
-    // the bucket. Where an allocation fails, it changes nothing.
+    // the bucket. If an allocation fails, it changes nothing.
     pub(crate) fn merge(
         &mut self,
         alloc: Global,
@@ -159,7 +159,7 @@ impl BucketMaps {
     }
 
     // Takes in all stamps of pages of near devices that are not older than the horizon, bucket by
-    // bucket, or none where an allocation fails. Returns which buckets that changes.
+    // bucket, or none if an allocation fails. Returns which buckets that changes.
     pub(crate) fn join(
         &mut self,
         alloc: Global,
@@ -250,7 +250,7 @@ fn next_of_all<'a>(
     next_of_later(here, next, rest)
 }
 
-// The same where the current bucket may have none left; empty buckets are skipped.
+// The same if the current bucket may have none left; empty buckets are skipped.
 #[inline(never)]
 fn next_of_later<'a>(
     here: &mut BucketPairs<'a>,
@@ -274,7 +274,7 @@ fn next_of_later<'a>(
     }
 }
 
-// The number of pages, where the count does not overflow.
+// The number of pages, if the count does not overflow.
 fn count_all(maps: &[BucketMap]) -> usize
     requires { count_of maps.now < 2 ^ 64 }
     ensures { result ≡ count_of maps.now }

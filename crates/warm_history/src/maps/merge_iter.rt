@@ -73,7 +73,7 @@ impl<'a> Source<'a> for BucketIter<'a> {
     }
 }
 
-// The entries of two sources, merged in page order, where each source gives its own in page order.
+// The entries of two sources, merged in page order; each source gives its own in page order.
 #[derive(Drop)]
 pub(crate) struct MergeIter<'a, I> {
     first: Option<Lent<'a>>,
@@ -97,7 +97,7 @@ impl<'a, I: Source<'a>> Source<'a> for MergeIter<'a, I> {
     }
 }
 
-// Takes the first entry of the one source, or that of the other where its page is smaller.
+// Takes the first entry of the one source, or that of the other if its page is smaller.
 #[tactic(auto, using(crate::proofs::maps::MergeIterLemmas::takes_other, crate::proofs::maps::MergeIterLemmas::takes_one))]
 fn take_smaller<'a, I: Source<'a>>(both: &mut [I; 2]) -> Option<Lent<'a>>
     ensures first { lent_entry result ≡ first_of (both_left I.left both.old) }
@@ -109,7 +109,7 @@ fn take_smaller<'a, I: Source<'a>>(both: &mut [I; 2]) -> Option<Lent<'a>>
     both[0].take_first()
 }
 
-// Whether one is of a greater page than the other, or is not there where the other is.
+// Whether the first has a greater page than the other, or is not there and the other is.
 fn is_later(one: Option<Lent<'_>>, other: Option<Lent<'_>>) -> bool
     ensures { result ≡ is_later (lent_entry one.entry) (lent_entry other.entry) }
 {

@@ -2,7 +2,7 @@
 //!
 //! A walk only reads, and lists what changes. The new pairs of a bucket are put in before the next
 //! bucket is walked. The values that change are written once all buckets have their new pairs: from
-//! there on nothing can fail. Where an allocation fails, the new pairs are taken out again.
+//! there on nothing can fail. If an allocation fails, the new pairs are taken out again.
 ghost use Rattle.std.specs.Prelude.{◌≡◌, ◌+◌, ◌<◌, ◌≤◌, ◌^◌, bit_or, IfOk, OnErr, OnOk, length};
 ghost use Rattle.warm_stamps.specs.declared.TheConstants.{BUCKETS};
 ghost use Rattle.warm_history.specs.maps.BucketMaps.{KeysAscend, found};
@@ -39,7 +39,7 @@ struct PutIn {
 }
 
 // Merges each map with the pairs of the other list's map that are not older than the horizon, or
-// none where an allocation fails. The first map is that of the bucket of this number.
+// none if an allocation fails. The first map is that of the bucket of this number.
 pub(crate) fn join_maps(
     alloc: Global,
     maps: &mut [BucketMap],
@@ -79,7 +79,7 @@ pub(crate) fn join_maps(
     }
 }
 
-// The buckets with that of this number, where it has changes.
+// The buckets with that of this number, if it has changes.
 fn with_bucket(buckets: BucketSet, number: u8, changes: usize) -> BucketSet
     requires { number < BUCKETS }
     ensures none { changes ≡ 0 → result ≡ buckets }
@@ -119,7 +119,7 @@ fn compare_map(
     Ok(Parts { changed, fresh })
 }
 
-// The room that is taken at once for new pairs: where the map has none, all of the other are new.
+// The room that is taken at once for new pairs: if the map has none, all of the other are new.
 fn room_for(map: &BTreeMap<NearKey, Packed>, more: &BTreeMap<NearKey, Packed>) -> usize
     ensures { result ≤ length more.now.entries }
 {
@@ -153,8 +153,8 @@ fn add_left<'a>(
     Ok(())
 }
 
-// Puts in pairs whose keys are new or, where an allocation fails, none. A map without pairs is made
-// of them at once, and all its nodes are full but the last ones. To put in none allocates nothing.
+// Puts in pairs whose keys are new or, if an allocation fails, none. A map without pairs is made of
+// them at once, and all its nodes are full but the last ones. To put in none allocates nothing.
 fn put_in(
     alloc: Global,
     map: &mut BTreeMap<NearKey, Packed>,

@@ -14,8 +14,8 @@ use std::collections::BTreeMap;
 // Takes in the given stamps of a page with this key, and returns how that changes the map. What was
 // known of the page is put in the place of the stamps.
 //
-// Where the page is likely new it inserts first, and otherwise it looks the page up first: each is
-// the faster way for its case.
+// If the page is likely new it inserts first, and otherwise it looks the page up first: each is the
+// faster way for its case.
 pub(crate) fn record_in<K: Ord + Copy>(
     map: &mut BTreeMap<K, Packed>,
     key: K,
@@ -34,7 +34,7 @@ pub(crate) fn record_in<K: Ord + Copy>(
 }
 
 // The same for a page that is likely new: it is inserted at once, which costs one descent of the
-// map where it is new and two where it is known.
+// map if it is new and two if it is known.
 fn record_likely_new<K: Ord + Copy>(
     map: &mut BTreeMap<K, Packed>,
     key: K,
@@ -61,7 +61,7 @@ fn record_likely_new<K: Ord + Copy>(
 }
 
 // The same for a page that is likely known: it is looked up first, which costs one descent of the
-// map where it is known and two where it is new.
+// map if it is known and two if it is new.
 fn record_likely_known<K: Ord + Copy>(
     map: &mut BTreeMap<K, Packed>,
     key: K,

@@ -39,7 +39,7 @@ fn is_run(number: u8, entries: &[Entry]) -> bool
     true
 }
 
-// The bucket of which these entries are a run, where they are one that is worth a walk.
+// The bucket of these entries, if they are a run that is worth a walk.
 pub(crate) fn bucket_of_run(more: &[Entry]) -> Option<Bucket>
     ensures { IfSome result (λ bucket. IsRun bucket more.now) }
 {
@@ -54,8 +54,8 @@ pub(crate) fn bucket_of_run(more: &[Entry]) -> Option<Bucket>
     Some(bucket)
 }
 
-// Takes in a run of a bucket: all stamps that are not older than the horizon or, where an
-// allocation fails, none.
+// Takes in a run of a bucket: all stamps that are not older than the horizon or, if an allocation
+// fails, none.
 pub(crate) fn take_run(
     alloc: Global,
     maps: &mut BucketMaps,

@@ -1,8 +1,8 @@
-//! A history in maps from keys: how references are taken in, and rolled back where an allocation
+//! A history in maps from keys: how references are taken in, and rolled back if an allocation
 //! fails.
 //!
-//! Each change notes the old value in an undo list. Where an allocation fails the notes are
-//! restored, the last one first, which is allocation-free.
+//! Each change notes the old value in an undo list. If an allocation fails, the notes are restored,
+//! the last one first, which is allocation-free.
 ghost use Rattle.std.specs.Prelude.{◌≡◌, ◌<◌, List, [], ◌∷◌, ◌++◌, IfOk, OnOk, OnErr, max};
 ghost use Rattle.std.specs.Prelude.{vec_capacity, vec_len};
 ghost use Rattle.std.specs.Iterator.{IsFinite, Drains};
@@ -33,10 +33,10 @@ use warm_stamps::{BucketSet, PageId, Reference, bucket_of};
 // The outcome of taking in the stamps of a page.
 #[derive(Debug, Clone, Copy)]
 struct Outcome {
-    // The bucket of the page, where that changed.
+    // The bucket of the page, if that changed.
     changed: BucketSet,
     // Whether the page was new. Pages often come in runs that are all new or all known, so the next
-    // page is likely to be as this one was, where it is not the same.
+    // page is likely to be as this one was, if it is not the same.
     is_new: bool,
 }
 
@@ -48,7 +48,7 @@ pub(crate) fn lookup(maps: &BucketMaps, page: PageId) -> Option<PageHist>
     Some(packed.get())
 }
 
-// Takes in all references that are not older than the horizon or, where an allocation fails, none.
+// Takes in all references that are not older than the horizon or, if an allocation fails, none.
 pub(crate) fn take_references(
     alloc: Global,
     maps: &mut BucketMaps,
@@ -80,7 +80,7 @@ pub(crate) fn take_references(
     }
 }
 
-// The same for one reference. Nothing is noted: there is nothing to undo where recording it fails.
+// The same for one reference. Nothing is noted: there is nothing to undo if recording it fails.
 fn take_reference(
     maps: &mut BucketMaps,
     horizon: u64,
@@ -101,7 +101,7 @@ fn take_reference(
     Ok(BucketSet::new().with(bucket_of(reference.page)))
 }
 
-// Takes in all stamps of entries that are not older than the horizon or, where an allocation fails,
+// Takes in all stamps of entries that are not older than the horizon or, if an allocation fails,
 // none. The entries may be in any order. A run of a bucket is merged with its map in one walk.
 pub(crate) fn take_entries(
     alloc: Global,
@@ -128,7 +128,7 @@ pub(crate) fn take_entries(
     }
 }
 
-// Takes in all stamps of another map that are not older than the horizon or, where an allocation
+// Takes in all stamps of another map that are not older than the horizon or, if an allocation
 // fails, none.
 pub(crate) fn take_pairs(
     alloc: Global,
@@ -189,7 +189,7 @@ fn take(
     })
 }
 
-// Notes a change of a page; where it was known, this was known of it. Each arm writes its note
+// Notes a change of a page, and what was known of it, if anything was. Each arm writes its note
 // right into the list: a note that is made first is copied twice.
 fn push_note(undo: &mut Vec<UndoNote>, page: PageId, change: Change, before: &Packed)
     requires { vec_len undo.old < vec_capacity undo.old }
@@ -266,7 +266,7 @@ fn take_each<I: Iterator<Item = Entry> + Drop>(
     Ok(changed)
 }
 
-// Forgets what is older than a time, where that is later than the horizon, and returns the new
+// Forgets what is older than a time, if that is later than the horizon, and returns the new
 // horizon.
 pub(crate) fn raise(maps: &mut BucketMaps, horizon: u64, time: u64) -> u64
     requires kept { AreKept maps.old }

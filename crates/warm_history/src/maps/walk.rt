@@ -2,7 +2,7 @@
 //! they are read in step, and no key is looked up from the map's root.
 //!
 //! The walk only reads, and lists what changes. New pairs are put in next, and taken out again
-//! where an allocation fails; the values that change are written last, which cannot fail.
+//! if an allocation fails; the values that change are written last, which cannot fail.
 ghost use Rattle.std.specs.Prelude.{◌≡◌, [], ◌∷◌, ◌<◌, ◌≤◌, ◌++◌, IfOk, IsSome};
 ghost use Rattle.std.specs.Prelude.{IsTrue, OnErr, OnOk, Some, length};
 ghost use Rattle.std.specs.List.{AllByRecursion};
@@ -54,7 +54,7 @@ pub(crate) struct Parts {
     pub(crate) fresh: Vec<(NearKey, Packed)>,
 }
 
-// Takes in a run of the map's bucket, and returns whether that changes the map. Where an allocation
+// Takes in a run of the map's bucket, and returns whether that changes the map. If an allocation
 // fails, it changes nothing.
 pub(crate) fn merge_run(
     alloc: Global,
@@ -145,7 +145,7 @@ pub(crate) fn ahead_from(map: &BTreeMap<NearKey, Packed>, key: NearKey) -> Ahead
     Ahead { first, later }
 }
 
-// The value at a key, where the map has one. The walk goes on from the key: keys are asked for in
+// The value at a key, if the map has one. The walk goes on from the key: keys are asked for in
 // rising order.
 pub(crate) fn find<'a>(
     map: &'a BTreeMap<NearKey, Packed>,
@@ -194,8 +194,8 @@ fn look_up<'a>(
     None
 }
 
-// Adds a pair of a run to the values that change, where it changes the one known at its key, or to
-// the pairs that are new. What is known often comes again, so that is seen first.
+// Adds a pair of a run to the values that change, if it changes the one known at its key, or to the
+// pairs that are new. What is known often comes again, so that is seen first.
 pub(crate) fn add_part(
     changed: &mut Vec<(NearKey, Packed)>,
     fresh: &mut Vec<(NearKey, Packed)>,
@@ -225,8 +225,7 @@ fn is_known(more: Packed, before: Packed) -> bool
     more.is_same(before)
 }
 
-// Adds the value with more stamps, where they change it. It is no part of the walk, as `look_up` is
-// none.
+// Adds the value with more stamps, if they change it. It is a function apart, as `look_up` is.
 #[inline(never)]
 fn add_change(
     changed: &mut Vec<(NearKey, Packed)>,
@@ -284,7 +283,7 @@ fn compare(
     Ok(Parts { changed, fresh })
 }
 
-// Puts in pairs whose keys are new or, where an allocation fails, none.
+// Puts in pairs whose keys are new or, if an allocation fails, none.
 pub(crate) fn put_all_in(
     map: &mut BTreeMap<NearKey, Packed>,
     fresh: &[(NearKey, Packed)],
@@ -308,7 +307,7 @@ pub(crate) fn put_all_in(
     }
 }
 
-// Inserts pairs one by one. Where an allocation fails, some may be in.
+// Inserts pairs one by one. If an allocation fails, some may be in.
 fn insert_each(
     map: &mut BTreeMap<NearKey, Packed>,
     pairs: &[(NearKey, Packed)],
@@ -364,7 +363,7 @@ fn write_along(map: &mut BTreeMap<NearKey, Packed>, pairs: &[(NearKey, Packed)])
     map.retain(move |key, hist| write_next(&mut left, *key, hist));
 }
 
-// Writes the first value that is left, where the walk is at its key. The pair of the map stays.
+// Writes the first value that is left, if the walk is at its key. The pair of the map stays.
 fn write_next(left: &mut &[(NearKey, Packed)], key: NearKey, hist: &mut Packed) -> bool
     ensures stays { IsTrue result }
     ensures hist { hist.new ≡ next_value left.old.now key hist.old }

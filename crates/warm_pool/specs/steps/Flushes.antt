@@ -4,7 +4,7 @@ use Rattle.warm_devices.specs.Device.{DeviceState, SameShape, CountsSettle, one_
 use Rattle.warm_devices.specs.declared.fault.DeviceFault.{DeviceFault}
 use Rattle.warm_pool.specs.State.{nth_device}
 
--- the device has nothing unflushed, and nothing else has changed; it was flushed once, where it was
+-- the device has nothing unflushed, and nothing else has changed; it was flushed once, if it was
 -- unflushed
 pub record IsFlushed (old new : DeviceState) : Type 0 where
   pub shape : SameShape old new
@@ -22,7 +22,7 @@ pub record FlushFails (old new : DeviceState) : Type 0 where
   pub calls : CountsSettle old new
   pub waiting : new.waiting ≡ true
 
--- device k was flushed, where it was unflushed
+-- device k was flushed, if it was unflushed
 pub record DeviceFlush (old new : List DeviceState) (k : ℕ)
     (result : Result (Unit {0}) DeviceFault) : Type 0 where
   pub after : DeviceState

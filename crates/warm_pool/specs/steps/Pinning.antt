@@ -21,7 +21,7 @@ use Rattle.warm_pool.specs.steps.WritingBack.{WriteFails}
 abbrev pub current_slot : PoolState → ℕ → Slot
 current_slot s i = record { index = i; generation = (nth_frame s.frames i).generation }
 
--- where the pin succeeded, the page of the frame has one more
+-- if the pin succeeded, the page of the frame has one more
 abbrev pub FixesPage : PoolState → ℕ → Result Placed PoolFault → PoolState → Type 0
 FixesPage old i result new =
     (p : PageId) → (nth_frame old.frames i).page ≡ Some p

@@ -15,7 +15,7 @@ use Rattle.warm_pool.specs.View.{view_of}
 use Rattle.warm_pool.specs.WritingBack.{KeptDevices, WaitsFor, WritesBack, clean_if}
 use Rattle.warm_pool.specs.WritingBack.{cleaned_selected}
 
--- where the frame has a dirty page, one call of its device wrote its bytes, with this result
+-- if the frame has a dirty page, one call of its device wrote its bytes, with this result
 abbrev pub WritesFrame : FrameState → List DeviceState → List DeviceState
     → Result (Unit {0}) DeviceFault → Type 0
 WritesFrame f old new result =
@@ -64,7 +64,7 @@ abbrev pub WritesBackAll : Devices → PoolState → PoolState → Type 0
 WritesBackAll which old new =
     WritesBack (cleaned_selected which (length old.frames) old.frames) old new
 
--- the page of this frame was written back, where it is selected
+-- the page of this frame was written back, if it is selected
 abbrev pub WritesBackOne : Devices → PoolState → ℕ → PoolState → Type 0
 WritesBackOne which old i new =
     WritesBack (set old.frames i (clean_if which (nth_frame old.frames i))) old new

@@ -14,7 +14,7 @@ use Rattle.warm_pool.specs.WritingBack.{WaitsFor}
 use Rattle.warm_pool.specs.Zeroing.{FixesZeroed, KeepsContentsBut}
 use Rattle.warm_pool.specs.steps.WritingBack.{CleanFails}
 
--- a frame with this page, one pin, this rank and so many zeros
+-- a frame with this page, one pin, this rank and this many zeros
 abbrev pub zeroed_frame : PageId → RankKey → ℕ → FrameState → FrameState
 zeroed_frame page key size f =
     record (loaded_frame page key 1 (replicate size 0) f) { dirty = true }

@@ -1,4 +1,4 @@
-use Rattle.warm_world.proofs.Lists.{one_more}
+use Rattle.warm_world.proofs.DeviceListLemmas.{one_more}
 use Rattle.tests_plays.proofs.player.add_list.Goals as goal
 
 pub returns : goal.returns

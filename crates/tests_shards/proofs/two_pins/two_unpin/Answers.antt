@@ -1,5 +1,5 @@
 use Rattle.std.proofs.Common.{◌∙◌, arith}
-use Rattle.tests_shards.proofs.Pinned.{none_pinned}
+use Rattle.tests_shards.proofs.TwoThreadPinLemmas.{none_pinned}
 use Rattle.tests_shards.proofs.two_pins.two_unpin.Goals as goal
 
 -- the law of two threads that unpin, of what each call ensured

@@ -2,7 +2,7 @@ use Rattle.std.proofs.Common.{◌+◌, ◌^◌, List, take, bit_or, rules, sym, 
 use Rattle.warm_history.specs.declared.hist.Entry.{Entry}
 use Rattle.warm_shards.specs.Shards.{shard_of}
 use Rattle.warm_c.specs.Parts.{HasBits, entry_pages, shards_of}
-use Rattle.warm_c.proofs.Shards.{bits_more}
+use Rattle.warm_c.proofs.ShardBitLemmas.{bits_more}
 use Rattle.warm_c.proofs.shard_parts.shards_of_entries.Goals as goal
 
 pub loop-entry-preserved : goal.loop-entry-preserved

@@ -2,8 +2,8 @@ use Rattle.std.proofs.Common.{◌≡◌, ◌≢◌, inl, ◌<◌, List, [], ◌�
 use Rattle.std.proofs.lemmas.Bool.{eqb-false, eqb-true}
 use Rattle.warm_frames.specs.declared.message.Message.{Message}
 use Rattle.warm_concurrent.specs.Answering.{AnswersPart, IsPartOf}
-use Rattle.warm_concurrent.proofs.Gathering.{none_gave, one_gave, same_gave}
-use Rattle.warm_concurrent.proofs.Requests.{messages_more}
+use Rattle.warm_concurrent.proofs.GatheredOfferLemmas.{none_gave, one_gave, same_gave}
+use Rattle.warm_concurrent.proofs.RequestPartLemmas.{messages_more}
 use Rattle.warm_concurrent.proofs.answering.answer_all.Goals as goal
 
 pub loop-shard-init : goal.loop-shard-init

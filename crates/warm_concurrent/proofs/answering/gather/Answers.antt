@@ -2,7 +2,7 @@ use Rattle.std.proofs.Common.{◌≡◌, ℕ, ◌<◌, List, [], ◌∷◌, ◌+
 use Rattle.warm_shards.proofs.AreShardsLemmas.{some_count}
 use Rattle.warm_concurrent.specs.declared.answering.Offered.{Offered}
 use Rattle.warm_concurrent.specs.Answering.{Offers, OffersFirst, no_offer}
-use Rattle.warm_concurrent.proofs.Gathering.{AreGathered, all_gathered, first_gathered, more_gathered, none_gave, one_gave}
+use Rattle.warm_concurrent.proofs.GatheredOfferLemmas.{AreGathered, all_gathered, first_gathered, more_gathered, none_gave, one_gave}
 use Rattle.warm_concurrent.proofs.answering.gather.Goals as goal
 
 pub returns-in-Err-clause-stopped : goal.returns-in-Err-clause-stopped

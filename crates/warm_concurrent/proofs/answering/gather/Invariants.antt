@@ -2,7 +2,7 @@ use Rattle.std.proofs.Common.{◌≡◌, ◌<◌, List, length}
 use Rattle.warm_concurrent.specs.declared.answering.Offered.{Offered}
 use Rattle.warm_concurrent.specs.Answering.{OffersFirst}
 use Rattle.warm_concurrent.specs.Attached.{AreOf}
-use Rattle.warm_concurrent.proofs.Gathering.{AreGathered}
+use Rattle.warm_concurrent.proofs.GatheredOfferLemmas.{AreGathered}
 use Rattle.warm_concurrent.proofs.answering.gather.Given as goal
 
 -- what the first shards offer together

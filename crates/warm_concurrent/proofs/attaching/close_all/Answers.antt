@@ -3,7 +3,7 @@ use Rattle.std.proofs.lemmas.List.{length-append}
 use Rattle.warm_concurrent.specs.Attached.{known_of, no_pass, no_turn, shard_pass, shard_turn}
 use Rattle.warm_concurrent.specs.Opening.{ClosesShard}
 use Rattle.warm_concurrent.proofs.AttachingLemmas.{closes}
-use Rattle.warm_concurrent.proofs.Places.{after_remove, first_left, push_each}
+use Rattle.warm_concurrent.proofs.ListLemmas.{after_remove, first_left, push_each}
 use Rattle.warm_concurrent.proofs.attaching.close_all.Goals as goal
 
 pub loop-shard-preserved : goal.loop-shard-preserved

@@ -2,7 +2,7 @@ use Rattle.std.proofs.Common.{◌≡◌, ◌<◌, ◌∙◌, length, ap, sym, ar
 use Rattle.warm_concurrent.specs.Attached.{ShardPass, ShardTurn, no_pass, no_turn, shard_pass, shard_turn}
 use Rattle.warm_concurrent.proofs.AttachingLemmas.{joined_next, joined_of, later_next}
 use Rattle.warm_shards.proofs.Places.{read_at}
-use Rattle.warm_concurrent.proofs.Places.{after_remove, first_left}
+use Rattle.warm_concurrent.proofs.ListLemmas.{after_remove, first_left}
 use Rattle.warm_concurrent.proofs.attaching.end_all.Goals as goal
 
 pub end-requires : goal.end-requires

@@ -4,7 +4,7 @@ use Rattle.warm_concurrent.specs.Attached.{IsPassOf, ShardPass, ShardTurn, known
 use Rattle.warm_concurrent.specs.Opening.{IsSplit}
 use Rattle.warm_concurrent.proofs.AttachingLemmas.{halved_next, halved_of, split_of, unsplit_next}
 use Rattle.warm_shards.proofs.Places.{read_at}
-use Rattle.warm_concurrent.proofs.Places.{push_each}
+use Rattle.warm_concurrent.proofs.ListLemmas.{push_each}
 use Rattle.warm_concurrent.proofs.attaching.split_all.Goals as goal
 
 pub pass-requires : goal.pass-requires

@@ -1,8 +1,8 @@
 use Rattle.std.proofs.Common.{◌≡◌, inl, inr, ◌<◌, [], ◌∷◌, ◌++◌, length, refl, sym, ap, subst, ◌∙◌, arith}
 use Rattle.warm_history.specs.Histories.{HistoryView, join}
 use Rattle.warm_concurrent.specs.Copying.{CopiesFirst, GivesCopy, join_of, no_history}
-use Rattle.warm_concurrent.proofs.Copies.{joined_more}
-use Rattle.warm_concurrent.proofs.Gathering.{none_gave, one_gave}
+use Rattle.warm_concurrent.proofs.CopyLemmas.{joined_more}
+use Rattle.warm_concurrent.proofs.GatheredOfferLemmas.{none_gave, one_gave}
 use Rattle.warm_concurrent.proofs.copying.copy_all.Goals as goal
 
 pub loop-shard-init : goal.loop-shard-init

@@ -1,7 +1,7 @@
 use Rattle.std.proofs.Common.{ap, ◌∙◌}
 use Rattle.warm_history.specs.Histories.{join}
 use Rattle.warm_peer.specs.State.{PeerState}
-use Rattle.warm_concurrent.proofs.Copies.{joined_to_none}
+use Rattle.warm_concurrent.proofs.CopyLemmas.{joined_to_none}
 use Rattle.warm_concurrent.proofs.copying.peer_with.Goals as goal
 
 pub returns-clause-history : goal.returns-clause-history

@@ -10,8 +10,8 @@ use Rattle.warm_shard_machine.specs.declared.calls.ShardReply.TheVariants.{Done}
 use Rattle.warm_concurrent.specs.Attached.{known_of}
 use Rattle.warm_concurrent.specs.Clauses.{Got}
 use Rattle.warm_concurrent.specs.Whole.{AbsorbsPart, ArePartsOf}
-use Rattle.warm_concurrent.proofs.FirstLemmas.{one_first, same_first}
-use Rattle.warm_concurrent.proofs.Parts.{part_at, part_owned}
+use Rattle.warm_concurrent.proofs.WholeCallLemmas.{one_first, same_first}
+use Rattle.warm_concurrent.proofs.BatchPartLemmas.{part_at, part_owned}
 use Rattle.warm_concurrent.proofs.history_calls.absorb_parts.Goals as goal
 
 pub loop-part-preserved-then-is_empty : goal.loop-part-preserved-then-is_empty

@@ -12,7 +12,7 @@ use Rattle.warm_shard_machine.specs.declared.calls.ShardReply.TheVariants.{Done}
 use Rattle.warm_concurrent.specs.Attached.{known_of}
 use Rattle.warm_concurrent.specs.Clauses.{Got}
 use Rattle.warm_concurrent.specs.Whole.{TakesPart, part_call}
-use Rattle.warm_concurrent.proofs.FirstLemmas.{one_first}
+use Rattle.warm_concurrent.proofs.WholeCallLemmas.{one_first}
 use Rattle.warm_concurrent.proofs.joining.take_parts.Goals as goal
 
 pub do_in-requires-clause-own : goal.do_in-requires-clause-own

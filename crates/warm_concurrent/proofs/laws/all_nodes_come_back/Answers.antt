@@ -1,4 +1,4 @@
-use Rattle.warm_concurrent.proofs.Rights.{nodes_come_back}
+use Rattle.warm_concurrent.proofs.CloseRightLemmas.{nodes_come_back}
 use Rattle.warm_concurrent.proofs.laws.all_nodes_come_back.Goals as goal
 
 pub returns : goal.returns

@@ -1,7 +1,7 @@
-use Rattle.warm_concurrent.proofs.ClosePins.{pins_come_back}
+use Rattle.warm_concurrent.proofs.ClosedPinLemmas.{pins_come_back}
 use Rattle.warm_shard_machine.proofs.ShardPinLemmas.{pins_are_given}
-use Rattle.warm_concurrent.proofs.ThreadPins.{pins_are_counted}
-use Rattle.warm_concurrent.proofs.TwoPins.{two_threads_unpin}
+use Rattle.warm_concurrent.proofs.ThreadPinLemmas.{pins_are_counted}
+use Rattle.warm_concurrent.proofs.TwoThreadPinLemmas.{two_threads_unpin}
 use Rattle.warm_concurrent.proofs.laws.pins_are_counted.Goals as goal
 
 pub returns : goal.returns

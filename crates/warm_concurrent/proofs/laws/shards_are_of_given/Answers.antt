@@ -1,6 +1,6 @@
-use Rattle.warm_concurrent.proofs.Headline.{shared_is_of_given}
+use Rattle.warm_concurrent.proofs.ClosedShardLemmas.{shared_is_of_given}
 use Rattle.warm_shard_machine.proofs.NodeStepLemmas.{shard_is_of_given}
-use Rattle.warm_concurrent.proofs.LawsHold.{together_are_of_given}
+use Rattle.warm_concurrent.proofs.LawLemmas.{together_are_of_given}
 use Rattle.warm_concurrent.proofs.laws.shards_are_of_given.Goals as goal
 
 pub returns : goal.returns

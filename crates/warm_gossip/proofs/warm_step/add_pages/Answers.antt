@@ -1,6 +1,6 @@
 use Rattle.std.proofs.Common.{◌∙◌, ◌++◌, ◌∷◌, [], ap, map, refl}
 use Rattle.std.proofs.lemmas.List.{map-append}
-use Rattle.warm_rank.proofs.LoopParts.{part_added, parts_are_all}
+use Rattle.warm_rank.proofs.LoopPartLemmas.{part_added, parts_are_all}
 use Rattle.warm_gossip.proofs.warm_step.add_pages.Goals as goal
 
 pub loop-item-preserved : goal.loop-item-preserved

@@ -76,7 +76,7 @@ loop-bucket-preserved c =
       rest = λ bucket above. so_far.rest bucket (omega (arith, above, v.longer, v.at));
     }
 
--- where no bucket would change, nothing would
+-- if no bucket would change, nothing would
 pub returns-clause-lost : goal.returns-clause-lost
 returns-clause-lost c =
     let all : length c.loop-bucket.yielded ≡ 64 = all_visited c.loop-bucket.yielded c.loop-bucket.bucket-iterator c.loop-bucket.invariant.split c.in-None.ensures.steps.0 in

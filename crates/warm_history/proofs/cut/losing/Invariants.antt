@@ -7,7 +7,7 @@ use Rattle.warm_history.specs.Histories.{entries_of}
 use Rattle.warm_history.specs.Losses.{raised}
 use Rattle.warm_history.proofs.cut.losing.Given as goal
 
--- the buckets so far are in the set where they would change, and no later one is
+-- the buckets so far are in the set exactly if they would change, and no later one is
 abbrev pub invariant-loop-bucket : goal.invariant-loop-bucket
 invariant-loop-bucket l = record {
   split : l.yielded ++ l.bucket-iterator ≡ range_with_len 0 BUCKETS;

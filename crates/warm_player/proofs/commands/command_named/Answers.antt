@@ -3,7 +3,7 @@ use Rattle.std.specs.Prelude.{option_map}
 use Rattle.warm_player.specs.Grammar.{commands}
 use Rattle.warm_player.specs.Parsing.{reader_of}
 use Rattle.warm_player.specs.declared.commands.TheConstants.{COMMANDS}
-use Rattle.warm_player.proofs.Tables.{looked_up-map}
+use Rattle.warm_player.proofs.CommandTableLemmas.{looked_up-map}
 use Rattle.warm_player.proofs.commands.command_named.Goals as goal
 
 pub returns : goal.returns

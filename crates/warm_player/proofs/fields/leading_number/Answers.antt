@@ -1,5 +1,5 @@
 use Rattle.std.proofs.Common.{◌+◌, ◌*◌, arith, sym, ◌∙◌}
-use Rattle.warm_player.proofs.Numbers.{first_digits, digits_go_on, after_goes_on, no_digit_ahead, is_big, is_whole}
+use Rattle.warm_player.proofs.NumberLemmas.{first_digits, digits_go_on, after_goes_on, no_digit_ahead, is_big, is_whole}
 use Rattle.warm_player.proofs.fields.leading_number.Goals as goal
 
 pub returns-in_err-first-clause-value : goal.returns-in_err-first-clause-value

@@ -1,7 +1,7 @@
 use Rattle.std.proofs.Common.{List, ℕ, Option, ap, arith, length, length-append, sym, ◌∙◌}
 use Rattle.std.specs.Option.{ok_or}
 use Rattle.warm_player.specs.Fields.{hex_pairs}
-use Rattle.warm_player.proofs.Hexes.{one_more, read_all, some_digits, with_read}
+use Rattle.warm_player.proofs.HexReadingLemmas.{one_more, read_all, some_digits, with_read}
 use Rattle.warm_player.specs.declared.parse.LineFault.TheVariants.{Bad}
 use Rattle.warm_player.proofs.fields.parse_bytes.Goals as goal
 

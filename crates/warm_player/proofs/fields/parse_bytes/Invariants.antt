@@ -1,6 +1,6 @@
 use Rattle.std.proofs.Common.{◌≡◌, ◌+◌, ◌*◌, ◌≤◌, ◌/◌, length, vec_capacity}
 use Rattle.warm_player.specs.Fields.{hex_pairs}
-use Rattle.warm_player.proofs.Hexes.{with_read}
+use Rattle.warm_player.proofs.HexReadingLemmas.{with_read}
 use Rattle.warm_player.proofs.fields.parse_bytes.Given as goal
 
 abbrev pub invariant-loop-byte : goal.invariant-loop-byte

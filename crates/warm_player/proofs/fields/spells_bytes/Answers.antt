@@ -2,7 +2,7 @@ use Rattle.std.proofs.Common.{sym, ap, ◌∙◌}
 use Rattle.std.proofs.lemmas.Bool.{eqb-true}
 use Rattle.std.specs.Option.{is_some}
 use Rattle.warm_player.proofs.SplitLemmas.{some_bytes}
-use Rattle.warm_player.proofs.Hexes.{nothing, is_some-map, spells_whole}
+use Rattle.warm_player.proofs.HexReadingLemmas.{nothing, is_some-map, spells_whole}
 use Rattle.warm_player.proofs.fields.spells_bytes.Goals as goal
 
 pub returns-then-is_empty : goal.returns-then-is_empty

@@ -1,6 +1,6 @@
-use Rattle.warm_world.proofs.Runs.{runs_are_right}
+use Rattle.warm_world.proofs.RunLemmas.{runs_are_right}
 use Rattle.warm_player.specs.Text.{lines}
-use Rattle.warm_player.proofs.Runs.{run_of_lines}
+use Rattle.warm_player.proofs.RunLemmas.{run_of_lines}
 use Rattle.warm_player.proofs.laws.play_is_run.Goals as goal
 
 pub returns : goal.returns

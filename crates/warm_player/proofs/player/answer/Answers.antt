@@ -6,7 +6,7 @@ use Rattle.warm_player.specs.declared.parse.Line.{Line}
 use Rattle.warm_player.specs.declared.parse.Line.TheVariants as meant
 use Rattle.warm_player.specs.declared.parse.LineFault.{LineFault}
 use Rattle.warm_random.proofs.AppendLemmas.{Appends-none}
-use Rattle.warm_player.proofs.Stream.{answers_event, answers_bad, answers_no_memory, answers_nothing, done, was_bad, was_line, was_put}
+use Rattle.warm_player.proofs.StreamLemmas.{answers_event, answers_bad, answers_no_memory, answers_nothing, done, was_bad, was_line, was_put}
 use Rattle.warm_player.proofs.player.answer.Goals as goal
 
 pub returns-in_ok-say_bad-in-Err-Bad-clause-answered : goal.returns-in_ok-say_bad-in-Err-Bad-clause-answered

@@ -1,8 +1,8 @@
 use Rattle.std.proofs.Common.{◌≡◌, [], ◌++◌, sym, arith}
 use Rattle.warm_world.specs.Views.{listed}
-use Rattle.warm_world.proofs.Replicas.{passed_on}
+use Rattle.warm_world.proofs.ReplicaBufferLemmas.{passed_on}
 use Rattle.warm_random.proofs.AppendLemmas.{Appends-none, Appends-then}
-use Rattle.warm_player.proofs.Stream.{Consumes-none, Consumes-then, Consumes-all, if_some_map, Goes-none, Goes-then, Goes-whole, Played-text, stopped_play}
+use Rattle.warm_player.proofs.StreamLemmas.{Consumes-none, Consumes-then, Consumes-all, if_some_map, Goes-none, Goes-then, Goes-whole, Played-text, stopped_play}
 use Rattle.warm_player.proofs.player.play.Goals as goal
 
 pub loop-init : goal.loop-init

@@ -5,7 +5,7 @@ use Rattle.std.proofs.lemmas.Grind.{flat_map-append}
 use Rattle.std.proofs.lemmas.List.{append-nil, nil_from_length}
 use Rattle.warm_random.proofs.AppendLemmas.{Appends-then}
 use Rattle.warm_player.specs.Answers.{byte_text}
-use Rattle.warm_player.proofs.Digits.{some_text}
+use Rattle.warm_player.proofs.HexDigitLemmas.{some_text}
 use Rattle.warm_player.proofs.SplitLemmas.{some_bytes}
 use Rattle.warm_player.proofs.printer.print_bytes.Goals as goal
 

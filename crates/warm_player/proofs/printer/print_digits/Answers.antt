@@ -1,6 +1,6 @@
 use Rattle.std.proofs.Common.{◌+◌, ◌*◌, ◌∙◌, arith}
 use Rattle.std.proofs.Math.ListN.{set, length-set}
-use Rattle.warm_player.proofs.Digits.{digits_more}
+use Rattle.warm_player.proofs.HexDigitLemmas.{digits_more}
 use Rattle.warm_player.proofs.printer.print_digits.Goals as goal
 
 pub loop-i-preserved : goal.loop-i-preserved

@@ -3,7 +3,7 @@ use Rattle.std.specs.Prelude.{flat_map}
 use Rattle.std.specs.Io.KnownBytes.{Appends}
 use Rattle.warm_history.specs.Histories.{entries_of}
 use Rattle.warm_player.specs.Answers.{entry_text, end_text}
-use Rattle.warm_player.proofs.Stream.{written_then}
+use Rattle.warm_player.proofs.StreamLemmas.{written_then}
 use Rattle.warm_player.proofs.printer.print_history.Goals as goal
 
 pub returns : goal.returns

@@ -3,7 +3,7 @@ use Rattle.std.specs.Prelude.{codes}
 use Rattle.std.proofs.lemmas.Fmt.{length-decimal-le}
 use Rattle.std.proofs.lemmas.List.{drop-set, length-drop, length-set, take_all}
 use Rattle.std.specs.Io.KnownBytes.{Appends}
-use Rattle.warm_player.proofs.Digits.{slot_line}
+use Rattle.warm_player.proofs.HexDigitLemmas.{slot_line}
 use Rattle.warm_player.proofs.printer.print_pinned.Goals as goal
 
 pub write_digits-dot-requires : goal.write_digits-dot-requires

@@ -1,5 +1,5 @@
 use Rattle.std.proofs.Common.{◌≡◌, ◌+◌, ◌-◌, refl, arith, ◌∙◌}
-use Rattle.warm_player.proofs.Digits.{slot_word}
+use Rattle.warm_player.proofs.HexDigitLemmas.{slot_word}
 use Rattle.warm_player.proofs.printer.put_slot_word.Goals as goal
 
 pub returns-clause-written : goal.returns-clause-written

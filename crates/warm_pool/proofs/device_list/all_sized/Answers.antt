@@ -1,5 +1,5 @@
 use Rattle.std.proofs.Common.{ap, sym, ◌∙◌}
-use Rattle.warm_pool.proofs.DeviceSteps.{device_is, sized_more}
+use Rattle.warm_pool.proofs.DeviceCallLemmas.{device_is, sized_more}
 use Rattle.warm_pool.proofs.device_list.all_sized.Goals as goal
 
 pub returns-then-page_size : goal.returns-then-page_size

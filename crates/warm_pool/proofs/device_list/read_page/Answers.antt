@@ -1,6 +1,6 @@
 use Rattle.std.proofs.Common.{◌<◌, ap, ◌∙◌, sym, subst, length}
 use Rattle.std.proofs.lemmas.List.{map-set}
-use Rattle.warm_pool.proofs.DeviceSteps.{device_is, lent_bytes, page_read}
+use Rattle.warm_pool.proofs.DeviceCallLemmas.{device_is, lent_bytes, page_read}
 use Rattle.warm_pool.proofs.device_list.read_page.Goals as goal
 
 pub read-done-requires-clause-known : goal.read-done-requires-clause-known

@@ -1,6 +1,6 @@
 use Rattle.std.proofs.Common.{◌<◌, ap, ◌∙◌, sym, subst}
 use Rattle.std.proofs.lemmas.List.{map-set}
-use Rattle.warm_pool.proofs.DeviceSteps.{device_is, page_written}
+use Rattle.warm_pool.proofs.DeviceCallLemmas.{device_is, page_written}
 use Rattle.warm_pool.proofs.device_list.write_page.Goals as goal
 
 pub write-done-requires-clause-known : goal.write-done-requires-clause-known

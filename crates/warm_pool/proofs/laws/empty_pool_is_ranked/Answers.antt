@@ -3,7 +3,7 @@ use Rattle.std.specs.Option.{option_map}
 use Rattle.warm_history.specs.Histories.{hist, references_of}
 use Rattle.warm_rank.specs.Keys.{rank_key}
 use Rattle.warm_frame_table.specs.Frames.{nth_frame}
-use Rattle.warm_pool.proofs.Bytes.{frame_seen}
+use Rattle.warm_pool.proofs.PageByteLemmas.{frame_seen}
 use Rattle.warm_pool.proofs.laws.empty_pool_is_ranked.Goals as goal
 
 pub returns : goal.returns

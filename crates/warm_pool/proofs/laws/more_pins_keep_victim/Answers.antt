@@ -1,4 +1,4 @@
-use Rattle.warm_pool.proofs.PinsAdded.{more_pins_keep_victim, more_pins_keep_frame}
+use Rattle.warm_pool.proofs.AddedPinLemmas.{more_pins_keep_victim, more_pins_keep_frame}
 use Rattle.warm_pool.proofs.laws.more_pins_keep_victim.Goals as goal
 
 pub returns : goal.returns

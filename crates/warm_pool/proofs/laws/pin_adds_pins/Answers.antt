@@ -1,4 +1,4 @@
-use Rattle.warm_pool.proofs.PinsAdded.{pin_adds_pins}
+use Rattle.warm_pool.proofs.AddedPinLemmas.{pin_adds_pins}
 use Rattle.warm_pool.proofs.laws.pin_adds_pins.Goals as goal
 
 pub returns : goal.returns

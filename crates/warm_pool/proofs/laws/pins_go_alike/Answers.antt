@@ -1,4 +1,4 @@
-use Rattle.warm_pool.proofs.OnePin.{pins_go_alike}
+use Rattle.warm_pool.proofs.PinUniquenessLemmas.{pins_go_alike}
 use Rattle.warm_pool.proofs.laws.pins_go_alike.Goals as goal
 
 pub returns : goal.returns

@@ -2,8 +2,8 @@ use Rattle.std.proofs.Common.{refl, sym, ◌∙◌}
 use Rattle.std.proofs.lemmas.Result.{err_from_is_err_and}
 use Rattle.warm_frame_table.specs.Frames.{nth_frame}
 use Rattle.warm_pool.proofs.FlushLemmas.{on_err}
-use Rattle.warm_pool.proofs.WriteBacks.{already_clean, wrote_back, write_failed, failed_pool, cleaned_to, wrote_frame, no_page, no_write}
-use Rattle.warm_pool.proofs.OtherDevices.{wrote_on}
+use Rattle.warm_pool.proofs.WriteBackLemmas.{already_clean, wrote_back, write_failed, failed_pool, cleaned_to, wrote_frame, no_page, no_write}
+use Rattle.warm_pool.proofs.OtherDeviceLemmas.{wrote_on}
 use Rattle.warm_pool.proofs.CallLemmas.{write_none, write_unread}
 use Rattle.warm_pool.proofs.write_back.write_back.Goals as goal
 

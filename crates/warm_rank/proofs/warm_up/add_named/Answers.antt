@@ -3,7 +3,7 @@ use Rattle.std.proofs.lemmas.List.{get_or_default}
 use Rattle.warm_history.specs.Histories.{references_of}
 use Rattle.warm_rank.specs.Relisting.{named_keys}
 use Rattle.warm_rank.proofs.FallingLemmas.{named_both}
-use Rattle.warm_rank.proofs.LoopParts.{part_added, parts_are_all}
+use Rattle.warm_rank.proofs.LoopPartLemmas.{part_added, parts_are_all}
 use Rattle.warm_rank.proofs.warm_up.add_named.Goals as goal
 
 pub loop-page-preserved : goal.loop-page-preserved

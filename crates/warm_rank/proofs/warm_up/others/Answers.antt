@@ -1,7 +1,7 @@
 use Rattle.std.proofs.Common.{refl}
 use Rattle.warm_rank.specs.Relisting.{keys_of_others}
 use Rattle.warm_rank.proofs.FallingLemmas.{others_both}
-use Rattle.warm_rank.proofs.LoopParts.{part_added, parts_are_all}
+use Rattle.warm_rank.proofs.LoopPartLemmas.{part_added, parts_are_all}
 use Rattle.warm_rank.proofs.warm_up.others.Goals as goal
 
 pub loop-key-preserved : goal.loop-key-preserved

@@ -1,7 +1,7 @@
 use Rattle.std.proofs.Common.{◌∙◌, sym, codes}
 use Rattle.clap.specs.Words.{found_of, rows_of, subcommand_rows_of}
 use Rattle.clap.proofs.WalkLemmas.{first_value-rows}
-use Rattle.warm_setup.proofs.WordsFound.{found_is, mapped_twice, asks_play, asks_random, asks_threads}
+use Rattle.warm_setup.proofs.SubcommandMatchLemmas.{found_is, mapped_twice, asks_play, asks_random, asks_threads}
 use Rattle.warm_setup.proofs.command.asked_in.Goals as goal
 
 pub returns-then-eq : goal.returns-then-eq

@@ -1,7 +1,7 @@
 use Rattle.std.proofs.Common.{◌∙◌, ap, map}
 use Rattle.std.specs.Prelude.{option_and_then}
 use Rattle.warm_setup.specs.Words.{command_by}
-use Rattle.warm_setup.proofs.WordsAsked.{lacks_value, refused_for_value}
+use Rattle.warm_setup.proofs.SubcommandLemmas.{lacks_value, refused_for_value}
 use Rattle.warm_setup.proofs.command.command_of.Goals as goal
 
 pub returns-in_default : goal.returns-in_default

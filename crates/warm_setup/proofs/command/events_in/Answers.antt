@@ -4,7 +4,7 @@ use Rattle.std.specs.Str.Parse.{ParsesUnsigned, HasUnsignedDigitsIfOk, ExplainsU
 use Rattle.clap.specs.Words.{found_of}
 use Rattle.clap.proofs.WalkLemmas.{one_text-rows}
 use Rattle.warm_setup.specs.Words.{number_in}
-use Rattle.warm_setup.proofs.WordsFound.{reads_argument}
+use Rattle.warm_setup.proofs.SubcommandMatchLemmas.{reads_argument}
 use Rattle.warm_setup.proofs.command.events_in.Goals as goal
 
 pub returns : goal.returns

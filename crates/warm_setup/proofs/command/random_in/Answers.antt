@@ -1,7 +1,7 @@
 use Rattle.std.proofs.Common.{◌∙◌, codes}
 use Rattle.clap.specs.Words.{found_of, rows_of}
 use Rattle.clap.proofs.WalkLemmas.{first_value-rows}
-use Rattle.warm_setup.proofs.WordsFound.{random_asked}
+use Rattle.warm_setup.proofs.SubcommandMatchLemmas.{random_asked}
 use Rattle.warm_setup.proofs.command.random_in.Goals as goal
 
 pub returns : goal.returns

@@ -1,5 +1,5 @@
 use Rattle.toml.specs.View.{view}
-use Rattle.warm_setup.proofs.SetupDevices.{devices_in-array}
+use Rattle.warm_setup.proofs.DeviceArrayLemmas.{devices_in-array}
 use Rattle.warm_setup.proofs.setup.devices.Goals as goal
 
 pub returns : goal.returns

@@ -1,5 +1,5 @@
 use Rattle.std.proofs.Common.{inr, arith}
-use Rattle.warm_setup.proofs.SetupDevices.{other_types, no_devices, many_devices, some_devices}
+use Rattle.warm_setup.proofs.DeviceArrayLemmas.{other_types, no_devices, many_devices, some_devices}
 use Rattle.warm_setup.proofs.setup.devices_of.Goals as goal
 use Rattle.warm_setup.proofs.setup.devices_of.Goals.{then-is_empty-via-then-is_empty, then-is_empty-via-else-is_empty+then-values-gt-MAX_LISTED_DEVICES}
 

@@ -1,5 +1,5 @@
 use Rattle.warm_setup.specs.Setups.{device_in}
-use Rattle.warm_setup.proofs.SetupSteps.{each_starts, each_goes_on, each_stops, passed, each_is_done}
+use Rattle.warm_setup.proofs.TableWalkLemmas.{each_starts, each_goes_on, each_stops, passed, each_is_done}
 use Rattle.warm_setup.proofs.setup.each_device.Goals as goal
 
 pub loop-value-init : goal.loop-value-init

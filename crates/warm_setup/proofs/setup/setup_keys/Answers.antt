@@ -1,6 +1,6 @@
 use Rattle.warm_setup.specs.SetupView.{settings_of}
 use Rattle.warm_setup.specs.Setups.{with_key}
-use Rattle.warm_setup.proofs.SetupSteps.{goes_on, stops, passed, is_done}
+use Rattle.warm_setup.proofs.TableWalkLemmas.{goes_on, stops, passed, is_done}
 use Rattle.warm_setup.proofs.setup.setup_keys.Goals as goal
 
 pub loop-key-preserved : goal.loop-key-preserved

@@ -1,6 +1,6 @@
 use Rattle.std.proofs.Common.{◌≡◌, List, ℕ, [], ◌∷◌, ◌++◌, length, length-append, ap, sym, subst, ◌∙◌, arith}
 use Rattle.warm_player.specs.Text.{lines}
-use Rattle.warm_player.proofs.Stream.{line_ends, line_last}
+use Rattle.warm_player.proofs.StreamLemmas.{line_ends, line_last}
 use Rattle.warm_threads.specs.declared.ask.Ask.{Ask}
 use Rattle.warm_threads.specs.Asks.{asked, asks, bad_from, with_ask}
 use Rattle.warm_threads.specs.Plans.{ArePlansOf}

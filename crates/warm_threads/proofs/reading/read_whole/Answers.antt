@@ -1,6 +1,6 @@
 use Rattle.std.proofs.Common.{◌++◌}
 use Rattle.std.specs.Io.KnownBytes.{Consumes}
-use Rattle.warm_player.proofs.Stream.{Consumes-none, Consumes-then, Consumes-all}
+use Rattle.warm_player.proofs.StreamLemmas.{Consumes-none, Consumes-then, Consumes-all}
 use Rattle.warm_threads.proofs.reading.read_whole.Goals as goal
 
 pub loop-init : goal.loop-init

@@ -1,6 +1,6 @@
 use Rattle.std.proofs.Common.{◌≡◌, ap}
 use Rattle.warm_turn.specs.Steps.{waiting, before_ticket, IsMade}
-use Rattle.warm_turn.proofs.Seats.{is_made, is_called, waits_with}
+use Rattle.warm_turn.proofs.SeatLemmas.{is_made, is_called, waits_with}
 use Rattle.warm_turn.proofs.turn.visit_later.Goals as goal
 
 pub serve-output-requires-clause-has : goal.serve-output-requires-clause-has

@@ -1,7 +1,7 @@
 use Rattle.std.proofs.Common.{sym, subst}
 use Rattle.warm_turn.specs.CallHistories.{IsPass}
-use Rattle.warm_turn.proofs.PassLemmas.{marked_is_pass}
-use Rattle.warm_turn.proofs.Seats.{called_from, took_unmarked, was_pass}
+use Rattle.warm_turn.proofs.PassLemmas.{spent_is_pass}
+use Rattle.warm_turn.proofs.SeatLemmas.{called_from, took_unmarked, was_pass}
 use Rattle.warm_turn.proofs.turn.wait_and_visit.Goals as goal
 
 pub visit_later-output-requires-clause-pass : goal.visit_later-output-requires-clause-pass
@@ -18,4 +18,4 @@ returns-clause-ok g c =
     )
 
 pub returns-in_default-clause-pass : goal.returns-in_default-clause-pass
-returns-in_default-clause-pass g c = subst (λ (m : _). IsPass g.M.Machine.goes m.0) (sym c.in_default.ensures.none) (marked_is_pass g.M.Machine.goes _ c.requires.idle.1)
+returns-in_default-clause-pass g c = subst (λ (m : _). IsPass g.M.Machine.goes m.0) (sym c.in_default.ensures.none) (spent_is_pass g.M.Machine.goes _ c.requires.idle.1)

@@ -1,5 +1,5 @@
 use Rattle.std.proofs.Common.{rules}
-use Rattle.warm_turn.proofs.Seats.{tries}
+use Rattle.warm_turn.proofs.SeatLemmas.{tries}
 use Rattle.warm_turn.proofs.waiting.poll_for_ticket.Goals as goal
 
 pub compare_exchange-found-requires : goal.compare_exchange-found-requires

@@ -1,5 +1,5 @@
 use Rattle.std.proofs.Common.{rules, ◌≡◌}
-use Rattle.warm_turn.proofs.Seats.{looks, has_machine}
+use Rattle.warm_turn.proofs.SeatLemmas.{looks, has_machine}
 use Rattle.warm_turn.proofs.waiting.poll_for_turn.Goals as goal
 
 pub load-served-requires : goal.load-served-requires

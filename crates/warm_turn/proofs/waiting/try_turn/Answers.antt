@@ -1,5 +1,5 @@
 use Rattle.std.proofs.Common.{rules, ◌≡◌}
-use Rattle.warm_turn.proofs.Seats.{forgets, glances, has_turn, seizes}
+use Rattle.warm_turn.proofs.SeatLemmas.{forgets, glances, has_turn, seizes}
 use Rattle.warm_turn.proofs.waiting.try_turn.Goals as goal
 
 pub load-served-requires : goal.load-served-requires

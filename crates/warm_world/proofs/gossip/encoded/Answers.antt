@@ -1,8 +1,8 @@
 use Rattle.std.proofs.Common.{◌≤◌, length, arith}
 use Rattle.std.proofs.lemmas.List.{take_all}
 use Rattle.warm_world.specs.Replicas.{EncodesMessage}
-use Rattle.warm_world.proofs.Messages.{encoded_more}
-use Rattle.warm_world.proofs.Pairs.{Pairwise-nil}
+use Rattle.warm_world.proofs.MessageLemmas.{encoded_more}
+use Rattle.warm_world.proofs.PairLemmas.{Pairwise-nil}
 use Rattle.warm_world.proofs.gossip.encoded.Goals as goal
 
 pub loop-message-init : goal.loop-message-init

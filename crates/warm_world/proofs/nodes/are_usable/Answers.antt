@@ -1,5 +1,5 @@
 use Rattle.std.proofs.Common.{arith}
-use Rattle.warm_world.proofs.Openings.{few_of_shown, usable_lists}
+use Rattle.warm_world.proofs.ReplicaOpeningLemmas.{few_of_shown, usable_lists}
 use Rattle.warm_world.proofs.nodes.are_usable.Goals as goal
 
 pub returns : goal.returns

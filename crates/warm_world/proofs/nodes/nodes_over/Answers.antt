@@ -1,6 +1,6 @@
 use Rattle.std.proofs.Common.{◌≡◌, ◌+◌, ◌++◌, ◌∷◌, [], length, append_assoc, ap, sym, ◌∙◌, arith}
 use Rattle.std.proofs.lemmas.List.{length-append}
-use Rattle.warm_world.proofs.Openings.{count, few_here, node_more}
+use Rattle.warm_world.proofs.ReplicaOpeningLemmas.{count, few_here, node_more}
 use Rattle.warm_world.proofs.nodes.nodes_over.Goals as goal
 
 pub node_over-requires : goal.node_over-requires

@@ -1,5 +1,5 @@
 use Rattle.std.proofs.Common.{refl, sym, arith}
-use Rattle.warm_world.proofs.Openings.{sized_all, sized_at, sized_more, sized_slice}
+use Rattle.warm_world.proofs.ReplicaOpeningLemmas.{sized_all, sized_at, sized_more, sized_slice}
 use Rattle.warm_world.proofs.world.are_sized.Goals as goal
 
 pub loop-list-init : goal.loop-list-init

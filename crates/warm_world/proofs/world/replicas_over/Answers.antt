@@ -1,6 +1,6 @@
 use Rattle.std.proofs.Common.{◌≡◌, ◌+◌, ◌++◌, ◌∷◌, [], length, append_assoc, ap, sym, ◌∙◌, arith}
 use Rattle.std.proofs.lemmas.List.{length-append}
-use Rattle.warm_world.proofs.Openings.{few_here, one_more}
+use Rattle.warm_world.proofs.ReplicaOpeningLemmas.{few_here, one_more}
 use Rattle.warm_world.proofs.world.replicas_over.Goals as goal
 
 pub new-requires-in-loop-list : goal.new-requires-in-loop-list

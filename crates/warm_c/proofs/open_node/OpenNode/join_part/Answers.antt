@@ -4,7 +4,7 @@ use Rattle.warm_gossip.specs.Clauses.{Joins}
 use Rattle.warm_gossip.specs.State.{node_view}
 use Rattle.warm_shards.specs.Parts.{part_of_history}
 use Rattle.warm_c.specs.Parts.{shard_buckets}
-use Rattle.warm_c.proofs.ShardEntries.{buckets_joined, whole_of_one}
+use Rattle.warm_c.proofs.ShardEntryLemmas.{buckets_joined, whole_of_one}
 use Rattle.warm_c.proofs.open_node.OpenNode.join_part.Goals as goal
 
 pub returns-then-shards-eq1 : goal.returns-then-shards-eq1

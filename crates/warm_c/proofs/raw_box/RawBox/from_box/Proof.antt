@@ -35,7 +35,7 @@ use Rattle.std_alloc.proofs.BoxSteps.Steps.{box_out, box_in}
 use Rattle.std.proofs.raw_atomic.Walks.{proved_at, leaves}
 use Rattle.std_alloc.specs.contracts.boxed.Box.into_raw_with_allocator as apart
 use Rattle.std_alloc.proofs.boxed.Box.into_raw_with_allocator.Met.{met}
-use Rattle.warm_c.proofs.Parts.{pair, pair_typed, pointer_is, closed}
+use Rattle.warm_c.proofs.RawBoxLemmas.{pair, pair_typed, pointer_is, closed}
 use Rattle.warm_c.specs.contracts.raw_box.RawBox.from_box.{ended, clauses}
 use Rattle.warm_c.specs.contracts.raw_box.RawBox.from_box.Key.{name as #self}
 use Rattle.warm_c.proofs.raw_box.RawBox.from_box.Statement.{statement}

@@ -33,7 +33,7 @@ use Rattle.std_alloc.proofs.BoxSteps.Steps.{box_out, box_in}
 use Rattle.std.proofs.raw_atomic.Walks.{proved_at, leaves}
 use Rattle.std_alloc.specs.contracts.boxed.Box.from_raw as made_of
 use Rattle.std_alloc.proofs.boxed.Box.from_raw.Met.{met}
-use Rattle.warm_c.proofs.Parts.{Apart, pair, pair_typed, opened}
+use Rattle.warm_c.proofs.RawBoxLemmas.{Apart, pair, pair_typed, opened}
 use Rattle.warm_c.specs.contracts.raw_box.RawBox.into_box.{ended, clauses}
 use Rattle.warm_c.specs.contracts.raw_box.RawBox.into_box.Key.{name as #self}
 use Rattle.warm_c.proofs.raw_box.RawBox.into_box.Statement.{statement}

@@ -4,7 +4,7 @@ use Rattle.warm_shards.specs.Shards.{shard_of}
 use Rattle.warm_concurrent.specs.Attached.{AreOf, AttachedView, ShardTurn, no_pass, shard_pass}
 use Rattle.warm_concurrent.specs.Looking.{LooksAt}
 use Rattle.warm_shard_machine.specs.Visits.{Shows}
-use Rattle.warm_concurrent.proofs.LooksAtLemmas.{is_here, looked}
+use Rattle.warm_concurrent.proofs.LookLemmas.{is_here, looked}
 use Rattle.warm_concurrent.proofs.PassLemmas.{answered, may}
 use Rattle.warm_shards.proofs.Places.{read_at}
 use Rattle.warm_concurrent.proofs.shared.SharedShards.look.Goals as goal

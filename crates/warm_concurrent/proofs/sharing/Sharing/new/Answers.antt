@@ -2,7 +2,7 @@ use Rattle.std.proofs.Common.{◌≡◌, ℕ, ◌∷◌, [], ◌++◌, length, a
 use Rattle.std.proofs.lemmas.List.{length-append, nil_from_length}
 use Rattle.warm_shards.specs.Shards.{shard_at}
 use Rattle.warm_concurrent.specs.Opening.{AreNumbered, openings, shards_from, shards_over}
-use Rattle.warm_concurrent.proofs.NumberedLemmas.{next_shard, none_first, numbered}
+use Rattle.warm_concurrent.proofs.ShardNumberLemmas.{next_shard, none_first, numbered}
 use Rattle.warm_concurrent.proofs.sharing.Sharing.new.Goals as goal
 
 pub loop-node-preserved : goal.loop-node-preserved

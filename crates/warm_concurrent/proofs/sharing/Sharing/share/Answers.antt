@@ -1,7 +1,7 @@
 use Rattle.std.proofs.Common.{List, ◌++◌, sym, ap, subst, ◌∙◌}
 use Rattle.warm_concurrent.specs.Opening.{AreNumbered, openings}
 use Rattle.warm_shard_machine.specs.ShardSteps.{ShardState}
-use Rattle.warm_concurrent.proofs.NumberedLemmas.{turns_numbered, turns_opened}
+use Rattle.warm_concurrent.proofs.ShardNumberLemmas.{turns_numbered, turns_opened}
 use Rattle.warm_concurrent.proofs.sharing.Sharing.share.Goals as goal
 
 pub invariant_of-result-2 : goal.invariant_of-result-2

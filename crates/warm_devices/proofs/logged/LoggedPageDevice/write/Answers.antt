@@ -1,7 +1,7 @@
 use Rattle.std.proofs.Common.{◌≡◌, true, false, Result, Ok, Err, OnOk, OnErr, is_err, refl}
 use Rattle.warm_devices.proofs.logged.LoggedPageDevice.write.Goals as goal
 
--- where it is so anyway, where there is no error, and where there is one
+-- what holds anyway also holds if there is an error
 anyway : {T E P : Type 0} (r : Result T E) → P → OnErr r P
 anyway (Ok x) holds = tt
 anyway (Err e) holds = holds

@@ -2,7 +2,7 @@ use Rattle.std.proofs.Common.{ap, ◌∙◌, true, false, List, ℕ}
 use Rattle.warm_devices.specs.Calls.{DeviceCalls}
 use Rattle.warm_devices.specs.Device.{DeviceState}
 use Rattle.warm_devices.specs.Pieces.{equal_pieces}
-use Rattle.warm_devices.proofs.Pieces.{pieces-zero}
+use Rattle.warm_devices.proofs.StoredPageLemmas.{pieces-zero}
 use Rattle.warm_devices.proofs.memory.MemDevice.new.Goals as goal
 
 pub returns : goal.returns

@@ -1,6 +1,6 @@
 use Rattle.std.proofs.Common.{◌*◌, ◌<◌, take, drop, ap, sym, ◌∙◌, arith}
 use Rattle.warm_devices.specs.Device.{page_at}
-use Rattle.warm_devices.proofs.Pieces.{page-read}
+use Rattle.warm_devices.proofs.StoredPageLemmas.{page-read}
 use Rattle.warm_devices.proofs.memory.MemDevicePageDevice.read.Goals as goal
 
 pub returns-clause-bytes : goal.returns-clause-bytes

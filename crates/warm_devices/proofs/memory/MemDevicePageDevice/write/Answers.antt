@@ -3,8 +3,8 @@ use Rattle.std.proofs.Math.ListN.{set}
 use Rattle.std.proofs.lemmas.List.{get_or-set_same}
 use Rattle.warm_devices.specs.Device.{page_at, ChangesPage}
 use Rattle.warm_devices.specs.Pieces.{equal_pieces, with_part}
-use Rattle.warm_devices.proofs.Pages.{changes-set}
-use Rattle.warm_devices.proofs.Pieces.{page-write, pieces-count}
+use Rattle.warm_devices.proofs.PageListLemmas.{changes-set}
+use Rattle.warm_devices.proofs.StoredPageLemmas.{page-write, pieces-count}
 use Rattle.warm_devices.proofs.memory.MemDevicePageDevice.write.Goals as goal
 
 is_page : (c : goal.After-note) → c.args.no < c.self.inside.pages

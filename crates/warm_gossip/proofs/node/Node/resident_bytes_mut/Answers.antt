@@ -1,6 +1,6 @@
 use Rattle.std.proofs.Common.{subst, sym}
 use Rattle.warm_pool.specs.Pinning.{CanPinAgain}
-use Rattle.warm_pool.proofs.UndonePins.{has_page}
+use Rattle.warm_pool.proofs.UndonePinLemmas.{has_page}
 use Rattle.warm_gossip.specs.State.{NodeState}
 use Rattle.warm_gossip.proofs.LendingLemmas.{lent_keeps}
 use Rattle.warm_gossip.proofs.node.Node.resident_bytes_mut.Goals as goal

@@ -3,7 +3,7 @@ use Rattle.warm_history.specs.maps.MapKeys.{first_far_key}
 use Rattle.warm_history.specs.maps.Runs.{IsRun, RiseWithin}
 use Rattle.warm_history.proofs.maps.runs.is_run.Given as goal
 
--- all are a run where those that are left rise from the next key on
+-- all are a run if those that are left rise from the next key on
 abbrev pub invariant-loop-entry : goal.invariant-loop-entry
 invariant-loop-entry l = record {
   enough : RiseWithin l.from (first_far_key l.number) (drop l.entry-index l.entries) → IsRun l.number l.entries;

@@ -1,6 +1,6 @@
 use Rattle.std.proofs.Common.{◌≡◌, ◌+◌, ◌-◌, length, refl, arith}
 use Rattle.warm_player.specs.declared.parse.TheConstants.{MAX_LINE}
-use Rattle.warm_player.proofs.Stream.{adds_held}
+use Rattle.warm_player.proofs.StreamLemmas.{adds_held}
 use Rattle.warm_player.proofs.player.Session.add.Goals as goal
 
 pub returns-clause-adds : goal.returns-clause-adds

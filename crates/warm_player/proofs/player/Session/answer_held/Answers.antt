@@ -1,4 +1,4 @@
-use Rattle.warm_player.proofs.Stream.{answers_same}
+use Rattle.warm_player.proofs.StreamLemmas.{answers_same}
 use Rattle.warm_player.proofs.player.Session.answer_held.Goals as goal
 
 pub returns-clause-answered : goal.returns-clause-answered

@@ -1,6 +1,6 @@
 use Rattle.std.proofs.Common.{◌≡◌, ℕ, ◌+◌, length, ap, sym, refl, ◌∙◌, arith}
 use Rattle.std.proofs.lemmas.Bool.{eqb-true}
-use Rattle.warm_player.proofs.Stream.{Goes-end, answers_whole, answers_held, nothing}
+use Rattle.warm_player.proofs.StreamLemmas.{Goes-end, answers_whole, answers_held, nothing}
 use Rattle.warm_player.proofs.player.Session.end_line.Goals as goal
 
 pub returns-then-is_empty-clause-goes : goal.returns-then-is_empty-clause-goes

@@ -1,6 +1,6 @@
 use Rattle.std.proofs.Common.{List, ℕ, [], ◌∷◌, ◌++◌, refl, sym, ◌∙◌, ap, append_assoc, length, length-append, arith}
 use Rattle.warm_random.proofs.AppendLemmas.{Appends-none, Appends-then}
-use Rattle.warm_player.proofs.Stream.{Goes-none, Goes-then, Goes-bytes, Goes-add}
+use Rattle.warm_player.proofs.StreamLemmas.{Goes-none, Goes-then, Goes-bytes, Goes-add}
 use Rattle.warm_player.proofs.player.Session.feed.Goals as goal
 
 pub loop-piece-init : goal.loop-piece-init

@@ -1,6 +1,6 @@
 use Rattle.std.proofs.Common.{◌++◌}
 use Rattle.warm_random.proofs.AppendLemmas.{Appends-then}
-use Rattle.warm_player.proofs.Stream.{Appends-kept, Ends-answer}
+use Rattle.warm_player.proofs.StreamLemmas.{Appends-kept, Ends-answer}
 use Rattle.warm_player.proofs.player.Session.finish.Goals as goal
 
 pub returns-clause-ended : goal.returns-clause-ended

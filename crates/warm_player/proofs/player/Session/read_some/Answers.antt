@@ -1,7 +1,7 @@
 use Rattle.std.proofs.Common.{[]}
 use Rattle.std.specs.Io.KnownBytes.{Consumes}
 use Rattle.warm_random.proofs.AppendLemmas.{Appends-none}
-use Rattle.warm_player.proofs.Stream.{Consumes-kept, Goes-none}
+use Rattle.warm_player.proofs.StreamLemmas.{Consumes-kept, Goes-none}
 use Rattle.warm_player.proofs.player.Session.read_some.Goals as goal
 
 pub returns-in-Ok-eq0-clause-goes : goal.returns-in-Ok-eq0-clause-goes

@@ -1,5 +1,5 @@
 use Rattle.warm_player.specs.Answers.{end_refused}
-use Rattle.warm_player.proofs.Stream.{done, settles_ill}
+use Rattle.warm_player.proofs.StreamLemmas.{done, settles_ill}
 use Rattle.warm_player.proofs.player.Session.settle.Goals as goal
 
 pub returns-in_ok-map_err-in-Err-clause-settled : goal.returns-in_ok-map_err-in-Err-clause-settled

@@ -1,8 +1,8 @@
 use Rattle.std.proofs.Common.{◌≢◌, ◌<◌, length, None, ◌∙◌, ap, refl, sym, subst, arith}
 use Rattle.warm_frame_table.specs.Frames.{nth_frame}
 use Rattle.warm_pool.proofs.PoolLemmas.{step_pool, step_ranked, step_view, step_holds, alike_fixes, seen_fixed}
-use Rattle.warm_pool.proofs.Pins.{fixed_slot}
-use Rattle.warm_pool.proofs.PoolSteps.{slot_seen, seen_there, seen_generation, seen_fixes, seen_page}
+use Rattle.warm_pool.proofs.PinLemmas.{fixed_slot}
+use Rattle.warm_pool.proofs.FrameChoiceLemmas.{slot_seen, seen_there, seen_generation, seen_fixes, seen_page}
 use Rattle.warm_pool.proofs.pool.Pool.add_fix.Goals as goal
 
 pub invariant_of-self : goal.invariant_of-self

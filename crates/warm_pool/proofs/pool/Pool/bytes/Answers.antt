@@ -1,5 +1,5 @@
 use Rattle.warm_pool.proofs.PoolLemmas.{seen_holds}
-use Rattle.warm_pool.proofs.Writes.{lent_seen}
+use Rattle.warm_pool.proofs.WriteLemmas.{lent_seen}
 use Rattle.warm_pool.proofs.pool.Pool.bytes.Goals as goal
 
 pub returns : goal.returns

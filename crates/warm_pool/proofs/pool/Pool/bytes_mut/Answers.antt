@@ -3,7 +3,7 @@ use Rattle.warm_pool.specs.View.{view_of}
 use Rattle.warm_pool.specs.PageBytes.{IsLent}
 use Rattle.warm_pool.specs.Lending.{relent_pool}
 use Rattle.warm_pool.proofs.PoolLemmas.{seen_holds, held_there, held_some}
-use Rattle.warm_pool.proofs.Writes.{lent_seen}
+use Rattle.warm_pool.proofs.WriteLemmas.{lent_seen}
 use Rattle.warm_pool.proofs.LendingLemmas.{lent_pool}
 use Rattle.warm_pool.proofs.pool.Pool.bytes_mut.Goals as goal
 

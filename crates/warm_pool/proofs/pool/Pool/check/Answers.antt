@@ -1,6 +1,6 @@
 use Rattle.std.proofs.Common.{refl, arith}
 use Rattle.std.proofs.lemmas.List.{length-map}
-use Rattle.warm_pool.proofs.PoolSteps.{seen_has, seen_pages, has_device, has_number}
+use Rattle.warm_pool.proofs.FrameChoiceLemmas.{seen_has, seen_pages, has_device, has_number}
 use Rattle.warm_pool.proofs.pool.Pool.check.Goals as goal
 
 pub returns-then-device-len-clause-unknown : goal.returns-then-device-len-clause-unknown

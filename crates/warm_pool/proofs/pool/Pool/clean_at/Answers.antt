@@ -1,6 +1,6 @@
 use Rattle.std.proofs.Common.{refl, ◌∙◌}
-use Rattle.warm_pool.proofs.Arrivals.{spare_keeps}
-use Rattle.warm_pool.proofs.OnePage.{cleans_spare, fails_spare, ok_then, err_then}
+use Rattle.warm_pool.proofs.FetchedPageLemmas.{spare_keeps}
+use Rattle.warm_pool.proofs.PageWriteBackLemmas.{cleans_spare, fails_spare, ok_then, err_then}
 use Rattle.warm_pool.proofs.pool.Pool.clean_at.Goals as goal
 
 pub write_back-requires-clause-fit : goal.write_back-requires-clause-fit

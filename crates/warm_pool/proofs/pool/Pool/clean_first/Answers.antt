@@ -4,7 +4,7 @@ use Rattle.warm_pool.specs.WritingSome.{room_after}
 use Rattle.warm_pool.proofs.FlushLemmas.{on_err}
 use Rattle.warm_pool.proofs.ClosingLemmas.{down_more}
 use Rattle.warm_pool.proofs.SettleLemmas.{down_view}
-use Rattle.warm_pool.proofs.SomeLemmas.{none_so_far, spent_more, full_first, all_first, some_fails, first_ranked, failed_ranked}
+use Rattle.warm_pool.proofs.PartialWriteBackLemmas.{none_so_far, spent_more, full_first, all_first, some_fails, first_ranked, failed_ranked}
 use Rattle.warm_pool.proofs.pool.Pool.clean_first.Goals as goal
 
 pub loop-at-init : goal.loop-at-init

@@ -1,4 +1,4 @@
-use Rattle.warm_pool.proofs.SomeLemmas.{SomeSoFar}
+use Rattle.warm_pool.proofs.PartialWriteBackLemmas.{SomeSoFar}
 use Rattle.warm_pool.proofs.pool.Pool.clean_first.Given as goal
 
 -- the pages of the frames so far were written back

@@ -1,7 +1,7 @@
 use Rattle.std.proofs.Common.{ap, sym, ◌∙◌}
 use Rattle.warm_frame_table.specs.Selection.{selects}
 use Rattle.warm_pool.specs.State.{nth_device}
-use Rattle.warm_pool.proofs.OtherDevices.{on_selected}
+use Rattle.warm_pool.proofs.OtherDeviceLemmas.{on_selected}
 use Rattle.warm_pool.proofs.pool.Pool.clean_if.Goals as goal
 
 pub returns-clause-others : goal.returns-clause-others

@@ -1,5 +1,5 @@
 use Rattle.std.proofs.Common.{sym, ◌∙◌}
-use Rattle.warm_pool.proofs.DirtyPages.{dirty_page_is, clean_page_is}
+use Rattle.warm_pool.proofs.DirtyPageLemmas.{dirty_page_is, clean_page_is}
 use Rattle.warm_pool.proofs.pool.Pool.dirty_page.Goals as goal
 
 pub returns-then-not-is_dirty : goal.returns-then-not-is_dirty

@@ -3,8 +3,8 @@ use Rattle.warm_devices.specs.Device.{GivesPage}
 use Rattle.warm_frame_table.specs.Frames.{nth_frame}
 use Rattle.warm_frame_table.specs.FrameSteps.{changed_at, loaded_frame}
 use Rattle.warm_pool.specs.State.{PoolState, IsNowhere, nth_device}
-use Rattle.warm_pool.proofs.Loads.{ok_if_no_err, err_if, on_ok, on_err}
-use Rattle.warm_pool.proofs.Arrivals.{spare_keeps}
+use Rattle.warm_pool.proofs.LoadLemmas.{ok_if_no_err, err_if, on_ok, on_err}
+use Rattle.warm_pool.proofs.FetchedPageLemmas.{spare_keeps}
 use Rattle.warm_pool.proofs.ZeroingLemmas.{zero_there, zero_below, zero_size}
 use Rattle.warm_pool.proofs.FillingLemmas.{filled_pool, fills_into}
 use Rattle.warm_pool.proofs.pool.Pool.fill_into.Goals as goal

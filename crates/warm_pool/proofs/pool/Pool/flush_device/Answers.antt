@@ -2,9 +2,9 @@ use Rattle.std.proofs.Common.{length, ap, sym, refl, arith, rules}
 use Rattle.std.proofs.lemmas.List.{length-map}
 use Rattle.warm_frame_table.specs.declared.selection.Devices.TheVariants.{One}
 use Rattle.warm_pool.proofs.FlushLemmas.{handed_on}
-use Rattle.warm_pool.proofs.PoolSteps.{of_ok, of_err}
+use Rattle.warm_pool.proofs.FrameChoiceLemmas.{of_ok, of_err}
 use Rattle.warm_pool.proofs.SettleLemmas.{down_view}
-use Rattle.warm_pool.proofs.SomeLemmas.{settled_on}
+use Rattle.warm_pool.proofs.PartialWriteBackLemmas.{settled_on}
 use Rattle.warm_pool.specs.declared.fault.PoolFault.TheVariants.{Fault}
 use Rattle.warm_pool.proofs.pool.Pool.flush_device.Goals as goal
 

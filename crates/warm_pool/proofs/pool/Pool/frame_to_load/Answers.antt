@@ -1,5 +1,5 @@
 use Rattle.std.proofs.Common.{inl, refl}
-use Rattle.warm_pool.proofs.PoolSteps.{seen_free, free_there, free_unfixed, seen_full, seen_place, least_if, least_there, least_unfixed}
+use Rattle.warm_pool.proofs.FrameChoiceLemmas.{seen_free, free_there, free_unfixed, seen_full, seen_place, least_if, least_there, least_unfixed}
 use Rattle.warm_pool.proofs.pool.Pool.frame_to_load.Goals as goal
 
 pub returns-in-Some : goal.returns-in-Some

@@ -1,4 +1,4 @@
-use Rattle.warm_pool.proofs.PoolSteps.{ok_iff}
+use Rattle.warm_pool.proofs.FrameChoiceLemmas.{ok_iff}
 use Rattle.warm_pool.proofs.pool.Pool.has.Goals as goal
 
 pub returns : goal.returns

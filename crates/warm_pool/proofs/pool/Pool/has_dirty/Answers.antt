@@ -1,5 +1,5 @@
-use Rattle.warm_pool.proofs.DirtyPages.{found_iff_dirty, absent_not_dirty}
-use Rattle.warm_pool.proofs.PoolSteps.{found_there}
+use Rattle.warm_pool.proofs.DirtyPageLemmas.{found_iff_dirty, absent_not_dirty}
+use Rattle.warm_pool.proofs.FrameChoiceLemmas.{found_there}
 use Rattle.warm_pool.proofs.pool.Pool.has_dirty.Goals as goal
 
 pub is_dirty-requires : goal.is_dirty-requires

@@ -1,11 +1,11 @@
 use Rattle.std.proofs.Common.{◌≡◌, ◌<◌, length, refl, sym, subst, ◌∙◌, arith, ap}
 use Rattle.std.proofs.lemmas.List.{length-set}
 use Rattle.warm_frame_table.specs.Frames.{nth_frame}
-use Rattle.warm_pool.proofs.PoolSteps.{pool_seen, has_device, has_number, seen_generation}
+use Rattle.warm_pool.proofs.FrameChoiceLemmas.{pool_seen, has_device, has_number, seen_generation}
 use Rattle.warm_pool.specs.DeviceCalls.{read_at}
 use Rattle.warm_pool.specs.View.{view_of}
 use Rattle.warm_pool.specs.Pinning.{PutsIn}
-use Rattle.warm_pool.proofs.Pins.{failed_ranked, loaded_ranked, loaded_puts, loaded_slot}
+use Rattle.warm_pool.proofs.PinLemmas.{failed_ranked, loaded_ranked, loaded_puts, loaded_slot}
 use Rattle.warm_pool.proofs.UnchangedLemmas.{loaded_takes}
 use Rattle.warm_pool.proofs.FlushLemmas.{handed_on}
 use Rattle.warm_pool.specs.declared.fault.PoolFault.TheVariants.{FixesFull}

@@ -1,7 +1,7 @@
 use Rattle.std.proofs.Common.{◌<◌, ◌∙◌, ap, refl, length, sym, subst}
 use Rattle.warm_frame_table.specs.Frames.{nth_frame}
-use Rattle.warm_pool.proofs.Loads.{ok_if_no_err, err_if, on_ok, on_err}
-use Rattle.warm_pool.proofs.Arrivals.{fetched_in, fetched_pool, fetched_none, fetch_failed, leave_failed, still_there, still_below, still_size, arrived_pool, loads_into}
+use Rattle.warm_pool.proofs.LoadLemmas.{ok_if_no_err, err_if, on_ok, on_err}
+use Rattle.warm_pool.proofs.FetchedPageLemmas.{fetched_in, fetched_pool, fetched_none, fetch_failed, leave_failed, still_there, still_below, still_size, arrived_pool, loads_into}
 use Rattle.warm_pool.proofs.pool.Pool.load_into.Goals as goal
 
 pub page-requires : goal.page-requires

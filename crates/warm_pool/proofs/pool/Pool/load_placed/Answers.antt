@@ -3,12 +3,12 @@ use Rattle.warm_frame_table.specs.Places.{IsPlaceOf}
 use Rattle.warm_pool.specs.View.{view_of}
 use Rattle.warm_pool.specs.State.{IsPool}
 use Rattle.warm_pool.specs.Pinning.{StaysIn}
-use Rattle.warm_pool.proofs.PoolSteps.{pool_seen, place_seen, found_there, found_holds, found_nowhere, seen_there, seen_page, seen_generation, seen_resident}
+use Rattle.warm_pool.proofs.FrameChoiceLemmas.{pool_seen, place_seen, found_there, found_holds, found_nowhere, seen_there, seen_page, seen_generation, seen_resident}
 use Rattle.warm_pool.proofs.UnchangedLemmas.{same_bytes, stays_in_frame}
 use Rattle.warm_pool.proofs.FlushLemmas.{handed_on, if_ok}
 use Rattle.warm_pool.proofs.PlacedLemmas.{placed_resident}
 use Rattle.warm_pool.specs.Outcomes.{LoadsPlaced}
-use Rattle.warm_pool.proofs.PinOutcomes.{puts_loaded}
+use Rattle.warm_pool.proofs.PinOutcomeLemmas.{puts_loaded}
 use Rattle.warm_pool.proofs.OutcomeLemmas.{unknown_load_fails}
 use Rattle.warm_pool.proofs.pool.Pool.load_placed.Goals as goal
 

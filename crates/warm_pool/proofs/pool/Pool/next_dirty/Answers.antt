@@ -1,5 +1,5 @@
 use Rattle.std.proofs.Common.{length, ap, arith}
-use Rattle.warm_pool.proofs.DirtyPages.{none_yet, none_more, none_left}
+use Rattle.warm_pool.proofs.DirtyPageLemmas.{none_yet, none_more, none_left}
 use Rattle.warm_pool.proofs.pool.Pool.next_dirty.Goals as goal
 
 pub loop-at-init : goal.loop-at-init

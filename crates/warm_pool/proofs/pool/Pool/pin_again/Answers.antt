@@ -1,6 +1,6 @@
 use Rattle.std.proofs.Common.{inl}
 use Rattle.warm_pool.specs.State.{IsPool}
-use Rattle.warm_pool.proofs.PoolSteps.{pool_seen, seen_has}
+use Rattle.warm_pool.proofs.FrameChoiceLemmas.{pool_seen, seen_has}
 use Rattle.warm_pool.proofs.PlacedLemmas.{placed_fixed}
 use Rattle.warm_pool.proofs.UnchangedLemmas.{stays_in_frame}
 use Rattle.warm_pool.proofs.pool.Pool.pin_again.Goals as goal

@@ -1,8 +1,8 @@
 use Rattle.std.proofs.Common.{Some, None}
-use Rattle.warm_pool.proofs.PoolSteps.{pool_seen, place_seen, found_there, found_holds, found_nowhere}
+use Rattle.warm_pool.proofs.FrameChoiceLemmas.{pool_seen, place_seen, found_there, found_holds, found_nowhere}
 use Rattle.warm_pool.proofs.FlushLemmas.{handed_on}
 use Rattle.warm_pool.proofs.FillingLemmas.{given_stored}
-use Rattle.warm_pool.proofs.PinOutcomes.{fixed_filled}
+use Rattle.warm_pool.proofs.PinOutcomeLemmas.{fixed_filled}
 use Rattle.warm_pool.proofs.OutcomeLemmas.{full_unread_fails, unknown_unread_fails}
 use Rattle.warm_pool.proofs.pool.Pool.pin_filled.Goals as goal
 

@@ -1,8 +1,8 @@
 use Rattle.std.proofs.Common.{Some, None}
-use Rattle.warm_pool.proofs.PoolSteps.{pool_seen, place_seen, found_there, found_holds, found_nowhere}
+use Rattle.warm_pool.proofs.FrameChoiceLemmas.{pool_seen, place_seen, found_there, found_holds, found_nowhere}
 use Rattle.warm_pool.proofs.FlushLemmas.{handed_on, if_ok, if_err}
 use Rattle.warm_pool.specs.Outcomes.{PinsPlaced}
-use Rattle.warm_pool.proofs.PinOutcomes.{fixed_pinned, puts_pinned}
+use Rattle.warm_pool.proofs.PinOutcomeLemmas.{fixed_pinned, puts_pinned}
 use Rattle.warm_pool.proofs.OutcomeLemmas.{full_pin_fails, load_pin_fails, unknown_pin_fails}
 use Rattle.warm_pool.proofs.pool.Pool.pin_placed.Goals as goal
 

@@ -3,7 +3,7 @@ use Rattle.std.proofs.lemmas.List.{length-map}
 use Rattle.warm_frame_table.specs.declared.selection.Devices.TheVariants.{One}
 use Rattle.warm_pool.specs.steps.Retiring.{AreUnfixed}
 use Rattle.warm_pool.proofs.FlushLemmas.{handed_on}
-use Rattle.warm_pool.proofs.PoolSteps.{of_err}
+use Rattle.warm_pool.proofs.FrameChoiceLemmas.{of_err}
 use Rattle.warm_pool.proofs.RetireLemmas.{fixed_on, may_retire}
 use Rattle.warm_pool.specs.declared.fault.PoolFault.TheVariants.{Fault}
 use Rattle.warm_pool.proofs.pool.Pool.prepare_retire.Goals as goal

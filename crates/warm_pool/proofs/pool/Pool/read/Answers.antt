@@ -1,5 +1,5 @@
 use Rattle.std.proofs.Common.{length, arith}
-use Rattle.warm_pool.proofs.Writes.{read_lent}
+use Rattle.warm_pool.proofs.WriteLemmas.{read_lent}
 use Rattle.warm_pool.proofs.pool.Pool.read.Goals as goal
 
 pub returns-clause-done : goal.returns-clause-done

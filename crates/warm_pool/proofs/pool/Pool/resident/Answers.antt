@@ -1,4 +1,4 @@
-use Rattle.warm_pool.proofs.PoolSteps.{found_iff}
+use Rattle.warm_pool.proofs.FrameChoiceLemmas.{found_iff}
 use Rattle.warm_pool.proofs.pool.Pool.resident.Goals as goal
 
 pub returns : goal.returns

@@ -1,6 +1,6 @@
 use Rattle.std.proofs.Common.{sym, subst}
 use Rattle.warm_pool.specs.Pinning.{CanPinAgain}
-use Rattle.warm_pool.proofs.Writes.{lent_at}
+use Rattle.warm_pool.proofs.WriteLemmas.{lent_at}
 use Rattle.warm_pool.proofs.pool.Pool.resident_bytes.Goals as goal
 
 pub returns : goal.returns

@@ -3,8 +3,8 @@ use Rattle.warm_pool.specs.View.{view_of}
 use Rattle.warm_pool.specs.PageBytes.{IsLent}
 use Rattle.warm_pool.specs.Lending.{relent_pool}
 use Rattle.warm_pool.specs.Pinning.{CanPinAgain}
-use Rattle.warm_pool.proofs.UndonePins.{relent_is_pool}
-use Rattle.warm_pool.proofs.Writes.{lent_at}
+use Rattle.warm_pool.proofs.UndonePinLemmas.{relent_is_pool}
+use Rattle.warm_pool.proofs.WriteLemmas.{lent_at}
 use Rattle.warm_pool.proofs.pool.Pool.resident_bytes_mut.Goals as goal
 
 pub invariant_of-self-lent : goal.invariant_of-self-lent

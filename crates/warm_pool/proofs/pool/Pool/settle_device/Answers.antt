@@ -4,7 +4,7 @@ use Rattle.warm_pool.specs.State.{PoolState, nth_device}
 use Rattle.warm_pool.specs.Calls.{FlushesNone}
 use Rattle.warm_pool.proofs.FlushLemmas.{on_err}
 use Rattle.warm_pool.proofs.PoolLemmas.{devices_keep_pool}
-use Rattle.warm_pool.proofs.OtherDevices.{off_device, flushed_others}
+use Rattle.warm_pool.proofs.OtherDeviceLemmas.{off_device, flushed_others}
 use Rattle.warm_pool.proofs.SettleLemmas.{ranked_to, seen_down}
 use Rattle.warm_pool.proofs.HandingBackLemmas.{stops_at_flush}
 use Rattle.warm_pool.proofs.RetireLemmas.{down_there, flush_one_down, flush_one_fails, one_kept, elsewhere_cleaned}

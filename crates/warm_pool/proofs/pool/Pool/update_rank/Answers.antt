@@ -1,4 +1,4 @@
-use Rattle.warm_pool.proofs.PoolSteps.{found_there, found_holds, found_nowhere}
+use Rattle.warm_pool.proofs.FrameChoiceLemmas.{found_there, found_holds, found_nowhere}
 use Rattle.warm_pool.proofs.RefreshingLemmas.{renewed_pool, renewed_view, renews, renews_none}
 use Rattle.warm_pool.proofs.pool.Pool.update_rank.Goals as goal
 

@@ -1,6 +1,6 @@
 use Rattle.std.proofs.Common.{sym, ap, ◌∙◌}
 use Rattle.warm_frame_table.specs.Frames.{nth_frame}
-use Rattle.warm_pool.proofs.PoolSteps.{pool_seen}
+use Rattle.warm_pool.proofs.FrameChoiceLemmas.{pool_seen}
 use Rattle.warm_pool.proofs.RefreshingLemmas.{frame_renewed, frame_bare}
 use Rattle.warm_pool.proofs.pool.Pool.update_rank_in.Goals as goal
 

@@ -2,7 +2,7 @@ use Rattle.std.proofs.Common.{sym, ap, ◌∙◌, subst}
 use Rattle.warm_history.specs.Histories.{references_of}
 use Rattle.warm_rank.specs.Ranking.{IsVictim}
 use Rattle.warm_frame_table.specs.Frames.{nth_frame}
-use Rattle.warm_pool.proofs.PoolSteps.{none_leaves, one_leaves}
+use Rattle.warm_pool.proofs.FrameChoiceLemmas.{none_leaves, one_leaves}
 use Rattle.warm_pool.proofs.pool.Pool.victim.Goals as goal
 
 pub returns-in_err-at-clause-victim : goal.returns-in_err-at-clause-victim

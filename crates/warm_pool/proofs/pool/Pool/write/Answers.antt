@@ -1,6 +1,6 @@
 use Rattle.std.proofs.Common.{◌+◌, ◌≤◌, length, refl, sym, subst}
 use Rattle.warm_pool.proofs.PoolLemmas.{seen_holds, held_there, held_some}
-use Rattle.warm_pool.proofs.Writes.{write_dirty, write_pool, write_ranked, write_view}
+use Rattle.warm_pool.proofs.WriteLemmas.{write_dirty, write_pool, write_ranked, write_view}
 use Rattle.warm_pool.proofs.pool.Pool.write.Goals as goal
 
 pub invariant_of-self : goal.invariant_of-self

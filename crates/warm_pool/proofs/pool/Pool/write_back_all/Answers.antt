@@ -1,5 +1,5 @@
 use Rattle.warm_frame_table.specs.declared.selection.Devices.TheVariants.{All}
-use Rattle.warm_pool.proofs.PoolSteps.{of_ok, of_err}
+use Rattle.warm_pool.proofs.FrameChoiceLemmas.{of_ok, of_err}
 use Rattle.warm_pool.proofs.SettleLemmas.{down_view, settled}
 use Rattle.warm_pool.specs.declared.fault.PoolFault.TheVariants.{Fault}
 use Rattle.warm_pool.proofs.FlushLemmas.{handed_on}

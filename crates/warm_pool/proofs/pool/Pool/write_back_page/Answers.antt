@@ -1,8 +1,8 @@
 use Rattle.std.proofs.Common.{Some, refl, sym, ◌∙◌, rules}
 use Rattle.warm_pool.proofs.FlushLemmas.{handed_on}
-use Rattle.warm_pool.proofs.OnePage.{found_dirty, found_clean, found_none, cleans_page, page_fails, cleans_ranked, fails_ranked}
-use Rattle.warm_pool.proofs.PoolSteps.{pool_seen, place_seen, found_there, found_nowhere, of_ok, of_err}
-use Rattle.warm_pool.proofs.WriteBacks.{cleans_view}
+use Rattle.warm_pool.proofs.PageWriteBackLemmas.{found_dirty, found_clean, found_none, cleans_page, page_fails, cleans_ranked, fails_ranked}
+use Rattle.warm_pool.proofs.FrameChoiceLemmas.{pool_seen, place_seen, found_there, found_nowhere, of_ok, of_err}
+use Rattle.warm_pool.proofs.WriteBackLemmas.{cleans_view}
 use Rattle.warm_pool.specs.declared.fault.PoolFault.TheVariants.{Fault}
 use Rattle.warm_pool.proofs.pool.Pool.write_back_page.Goals as goal
 

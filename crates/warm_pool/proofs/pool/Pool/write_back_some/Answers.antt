@@ -1,5 +1,5 @@
-use Rattle.warm_pool.proofs.PoolSteps.{of_ok, of_err}
-use Rattle.warm_pool.proofs.SomeLemmas.{first_view}
+use Rattle.warm_pool.proofs.FrameChoiceLemmas.{of_ok, of_err}
+use Rattle.warm_pool.proofs.PartialWriteBackLemmas.{first_view}
 use Rattle.warm_pool.specs.declared.fault.PoolFault.TheVariants.{Fault}
 use Rattle.warm_pool.proofs.FlushLemmas.{handed_on}
 use Rattle.std.proofs.Common.{refl, rules}

@@ -3,7 +3,7 @@ use Rattle.warm_frame_table.specs.declared.selection.Devices.TheVariants.{All}
 use Rattle.warm_pool.specs.steps.Retiring.{AreUnfixed}
 use Rattle.warm_pool.proofs.EmptyLemmas.{unfixed_frames}
 use Rattle.warm_pool.proofs.FlushLemmas.{handed_on}
-use Rattle.warm_pool.proofs.PoolSteps.{of_err}
+use Rattle.warm_pool.proofs.FrameChoiceLemmas.{of_err}
 use Rattle.warm_pool.specs.declared.fault.PoolFault.TheVariants.{Fault}
 use Rattle.warm_pool.proofs.pool.Pool.write_back_unpinned.Goals as goal
 

@@ -2,8 +2,8 @@ use Rattle.std.proofs.Common.{◌<◌, ◌≤◌, ◌∙◌, ap, refl, length, s
 use Rattle.warm_devices.specs.declared.TheConstants.{MAX_PAGE_SIZE}
 use Rattle.warm_frame_table.specs.Frames.{nth_frame}
 use Rattle.warm_pool.specs.State.{PoolState, IsNowhere, nth_device}
-use Rattle.warm_pool.proofs.Loads.{ok_if_no_err, err_if, on_ok, on_err}
-use Rattle.warm_pool.proofs.Arrivals.{spare_keeps}
+use Rattle.warm_pool.proofs.LoadLemmas.{ok_if_no_err, err_if, on_ok, on_err}
+use Rattle.warm_pool.proofs.FetchedPageLemmas.{spare_keeps}
 use Rattle.warm_pool.proofs.ZeroingLemmas.{zero_there, zero_below, zero_size, zeroed_pool, zeroes_into}
 use Rattle.warm_pool.proofs.pool.Pool.zero_into.Goals as goal
 

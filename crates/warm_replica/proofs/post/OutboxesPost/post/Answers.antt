@@ -5,7 +5,7 @@ use Rattle.std.proofs.lemmas.List.Quantifiers.{position-Some}
 use Rattle.std.specs.List.{All}
 use Rattle.warm_replica.proofs.post.OutboxesPost.post.Goals as goal
 
--- where no outbox has the number, none is its first
+-- if no outbox has the number, none is its first
 none_first : {A : Type 0} (number : A → ℕ) (to : ℕ) (xs : List A) (at : ℕ)
     → position (λ x. number x == to) xs ≡ Some at → All (λ x. number x ≢ to) xs → ⊥
 none_first number to [] at first none = grind (arith, common_steps, first)

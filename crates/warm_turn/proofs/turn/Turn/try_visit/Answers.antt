@@ -2,7 +2,7 @@ use Rattle.std.proofs.Common.{[], ap, refl, subst}
 use Rattle.warm_turn.specs.declared.table.View.{View}
 use Rattle.warm_turn.specs.CallHistories.{Called}
 use Rattle.warm_turn.specs.Steps.{waiting, IsMade}
-use Rattle.warm_turn.proofs.Seats.{is_made, is_called}
+use Rattle.warm_turn.proofs.SeatLemmas.{is_made, is_called}
 use Rattle.warm_turn.proofs.turn.Turn.try_visit.Goals as goal
 
 pub serve-output-requires-clause-has : goal.serve-output-requires-clause-has

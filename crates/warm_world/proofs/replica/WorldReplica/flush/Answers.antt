@@ -1,7 +1,7 @@
 use Rattle.std.proofs.Common.{◌≡◌, get_or, [], ◌∙◌, ap, refl}
 use Rattle.warm_refbuffer.specs.Buffered.{Buffered}
 use Rattle.warm_world.specs.WorldStands.{buffered}
-use Rattle.warm_world.proofs.Replicas.{buffer_at, flushes}
+use Rattle.warm_world.proofs.ReplicaBufferLemmas.{buffer_at, flushes}
 use Rattle.warm_world.proofs.replica.WorldReplica.flush.Goals as goal
 
 pub returns-clause-ok : goal.returns-clause-ok

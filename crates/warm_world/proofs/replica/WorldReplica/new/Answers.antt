@@ -1,5 +1,5 @@
 use Rattle.std.proofs.Common.{refl}
-use Rattle.warm_world.proofs.Replicas.{opened_stands}
+use Rattle.warm_world.proofs.ReplicaBufferLemmas.{opened_stands}
 use Rattle.warm_world.proofs.replica.WorldReplica.new.Goals as goal
 
 pub returns : goal.returns

@@ -7,7 +7,7 @@ use Rattle.warm_world.specs.Views.{ReplicaView, replica_view}
 use Rattle.warm_world.specs.States.{pending, flushed}
 use Rattle.warm_world.specs.Effects.{stamped}
 use Rattle.warm_world.specs.WorldStands.{ReplicaStands, buffered}
-use Rattle.warm_world.proofs.Replicas.{buffer_at, flushed_is_empty, gave_back, passed_on, puts, referred_when_full, referred_with_capacity, took_one}
+use Rattle.warm_world.proofs.ReplicaBufferLemmas.{buffer_at, flushed_is_empty, gave_back, passed_on, puts, referred_when_full, referred_with_capacity, took_one}
 use Rattle.warm_world.proofs.replica.WorldReplica.refer.Goals as goal
 
 -- the reference that is touched

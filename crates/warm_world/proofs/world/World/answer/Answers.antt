@@ -1,6 +1,6 @@
 use Rattle.std.proofs.Common.{refl}
 use Rattle.warm_world.specs.Replicas.{answered}
-use Rattle.warm_world.proofs.Worlds.{asks}
+use Rattle.warm_world.proofs.WorldLemmas.{asks}
 use Rattle.warm_world.proofs.world.World.answer.Goals as goal
 
 pub returns-in_default : goal.returns-in_default

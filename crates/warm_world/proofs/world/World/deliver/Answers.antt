@@ -10,8 +10,8 @@ use Rattle.warm_world.specs.declared.event.Event.TheVariants.{Deliver}
 use Rattle.warm_world.specs.Views.{ReplicaView, replica_view}
 use Rattle.warm_world.proofs.PoolCallLemmas.{receive_refused}
 use Rattle.warm_world.proofs.DeliveryLemmas.{raised_after, taken}
-use Rattle.warm_world.proofs.Messages.{decoded_is}
-use Rattle.warm_world.proofs.Worlds.{no_memory, place_in}
+use Rattle.warm_world.proofs.MessageLemmas.{decoded_is}
+use Rattle.warm_world.proofs.WorldLemmas.{no_memory, place_in}
 use Rattle.warm_world.proofs.world.World.deliver.Goals as goal
 
 -- entries: an allocation failed, or they are taken in

@@ -1,8 +1,8 @@
 use Rattle.warm_world.specs.Opening.{StopsInOrder}
 use Rattle.warm_world.specs.WorldStands.{CountsFailure}
 use Rattle.warm_world.specs.Views.{world_view}
-use Rattle.warm_world.proofs.Endings.{fails_since, fails_stand, stops_in_order}
-use Rattle.warm_world.proofs.Replicas.{passed_on}
+use Rattle.warm_world.proofs.ReplicaWriteBackLemmas.{fails_since, fails_stand, stops_in_order}
+use Rattle.warm_world.proofs.ReplicaBufferLemmas.{passed_on}
 use Rattle.warm_world.proofs.world.World.finish.Goals as goal
 
 pub returns-in_err-write_back-clause-refused : goal.returns-in_err-write_back-clause-refused

@@ -3,7 +3,7 @@ use Rattle.std.proofs.lemmas.Result.{err_from_is_err_and}
 use Rattle.warm_world.specs.declared.event.Event.TheVariants.{Flush}
 use Rattle.warm_world.specs.declared.event.Answer.TheVariants.{Done}
 use Rattle.warm_world.specs.States.{replica, flushed}
-use Rattle.warm_world.proofs.Worlds.{changes, no_memory, worker_in}
+use Rattle.warm_world.proofs.WorldLemmas.{changes, no_memory, worker_in}
 use Rattle.warm_world.proofs.world.World.flush.Goals as goal
 
 pub flush-requires : goal.flush-requires

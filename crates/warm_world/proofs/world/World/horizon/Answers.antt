@@ -4,8 +4,8 @@ use Rattle.warm_world.specs.declared.event.Event.TheVariants.{Horizon}
 use Rattle.warm_world.specs.declared.event.Answer.TheVariants.{Kept}
 use Rattle.warm_world.specs.Views.{ReplicaView}
 use Rattle.warm_world.specs.States.{ReplicaState, raised_replica, replica}
-use Rattle.warm_world.proofs.Replicas.{horizon_seen, raises}
-use Rattle.warm_world.proofs.Worlds.{changes, place_in, replica_set_at, stands_at}
+use Rattle.warm_world.proofs.ReplicaBufferLemmas.{horizon_seen, raises}
+use Rattle.warm_world.proofs.WorldLemmas.{changes, place_in, replica_set_at, stands_at}
 use Rattle.warm_world.proofs.world.World.horizon.Goals as goal
 
 pub returns : goal.returns

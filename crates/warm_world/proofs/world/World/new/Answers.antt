@@ -2,8 +2,8 @@ use Rattle.std.proofs.Common.{◌≡◌, false, length, IsTrue, sym, ◌∙◌, 
 use Rattle.warm_world.specs.declared.event.BadWorld.TheVariants.{Memory}
 use Rattle.warm_world.specs.Opening.{NewWorldRefused}
 use Rattle.warm_world.specs.Views.{listed}
-use Rattle.warm_world.proofs.Openings.{count, sized_as}
-use Rattle.warm_world.proofs.Replicas.{passed_on}
+use Rattle.warm_world.proofs.ReplicaOpeningLemmas.{count, sized_as}
+use Rattle.warm_world.proofs.ReplicaBufferLemmas.{passed_on}
 use Rattle.warm_world.proofs.world.World.new.Goals as goal
 
 pub returns-then-not-are_sized-clause-refused : goal.returns-then-not-are_sized-clause-refused

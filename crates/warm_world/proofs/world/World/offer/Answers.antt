@@ -6,9 +6,9 @@ use Rattle.warm_world.specs.Replicas.{answered}
 use Rattle.warm_world.specs.Views.{ReplicaView}
 use Rattle.warm_world.specs.States.{reach_of}
 use Rattle.warm_world.proofs.PoolCallLemmas.{offer_refused}
-use Rattle.warm_world.proofs.Messages.{kept_one}
-use Rattle.warm_world.proofs.Histories.{offer_record, offers_kept}
-use Rattle.warm_world.proofs.Worlds.{named_too, no_memory, node_at, replica_stays}
+use Rattle.warm_world.proofs.MessageLemmas.{kept_one}
+use Rattle.warm_world.proofs.HistoryLemmas.{offer_record, offers_kept}
+use Rattle.warm_world.proofs.WorldLemmas.{named_too, no_memory, node_at, replica_stays}
 use Rattle.warm_world.proofs.world.World.offer.Goals as goal
 
 pub returns : goal.returns

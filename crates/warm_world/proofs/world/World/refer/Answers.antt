@@ -5,7 +5,7 @@ use Rattle.warm_world.specs.declared.event.Event.TheVariants.{Refer}
 use Rattle.warm_world.specs.declared.event.Answer.TheVariants.{Done}
 use Rattle.warm_world.specs.States.{replica, referred}
 use Rattle.warm_world.specs.Effects.{stamped}
-use Rattle.warm_world.proofs.Worlds.{changes, no_memory, node_at, worker_in}
+use Rattle.warm_world.proofs.WorldLemmas.{changes, no_memory, node_at, worker_in}
 use Rattle.warm_world.proofs.world.World.refer.Goals as goal
 
 pub refer-requires : goal.refer-requires

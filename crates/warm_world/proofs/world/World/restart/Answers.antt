@@ -9,8 +9,8 @@ use Rattle.warm_world.specs.declared.event.Event.TheVariants.{Restart}
 use Rattle.warm_world.specs.declared.event.Answer.TheVariants as answer
 use Rattle.warm_world.specs.declared.event.WorldFault.TheVariants.{Node}
 use Rattle.warm_world.specs.States.{replica, restarted}
-use Rattle.warm_world.proofs.Replicas.{restarts}
-use Rattle.warm_world.proofs.Worlds.{asked, changes, node_at}
+use Rattle.warm_world.proofs.ReplicaBufferLemmas.{restarts}
+use Rattle.warm_world.proofs.WorldLemmas.{asked, changes, node_at}
 use Rattle.warm_world.proofs.world.World.restart.Goals as goal
 
 pub returns : goal.returns

@@ -1,6 +1,6 @@
 use Rattle.std.proofs.Common.{◌++◌, ◌∷◌, [], length, append_assoc, ap, sym, ◌∙◌, arith}
 use Rattle.std.proofs.lemmas.List.{length-append}
-use Rattle.warm_world.proofs.Runs.{ran_more, ran_none}
+use Rattle.warm_world.proofs.RunLemmas.{ran_more, ran_none}
 use Rattle.warm_world.proofs.world.World.run.Goals as goal
 
 pub loop-event-init : goal.loop-event-init

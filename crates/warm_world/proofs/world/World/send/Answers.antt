@@ -6,9 +6,9 @@ use Rattle.warm_world.specs.declared.event.Event.TheVariants.{Send}
 use Rattle.warm_world.specs.Replicas.{answered}
 use Rattle.warm_world.specs.States.{References, reach_of}
 use Rattle.warm_world.proofs.PoolCallLemmas.{send_refused}
-use Rattle.warm_world.proofs.Messages.{kept_one}
-use Rattle.warm_world.proofs.Histories.{sent_kept}
-use Rattle.warm_world.proofs.Worlds.{named_too, no_memory_still, node_at}
+use Rattle.warm_world.proofs.MessageLemmas.{kept_one}
+use Rattle.warm_world.proofs.HistoryLemmas.{sent_kept}
+use Rattle.warm_world.proofs.WorldLemmas.{named_too, no_memory_still, node_at}
 use Rattle.warm_world.proofs.world.World.send.Goals as goal
 
 pub returns : goal.returns

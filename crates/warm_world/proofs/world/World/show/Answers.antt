@@ -1,7 +1,7 @@
 use Rattle.std.proofs.Common.{ap, refl, ◌∙◌}
 use Rattle.warm_gossip.specs.State.{NodeView}
 use Rattle.warm_world.specs.declared.event.Event.TheVariants.{Show}
-use Rattle.warm_world.proofs.Worlds.{named_too, node_at}
+use Rattle.warm_world.proofs.WorldLemmas.{named_too, node_at}
 use Rattle.warm_world.proofs.world.World.show.Goals as goal
 
 pub returns : goal.returns

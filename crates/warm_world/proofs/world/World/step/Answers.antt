@@ -1,4 +1,4 @@
-use Rattle.warm_world.proofs.Worlds.{missing_too}
+use Rattle.warm_world.proofs.WorldLemmas.{missing_too}
 use Rattle.warm_world.proofs.world.World.step.Goals as goal
 
 pub returns-in-Err : goal.returns-in-Err

@@ -1,7 +1,7 @@
 use Rattle.std.proofs.Common.{refl}
 use Rattle.warm_world.specs.declared.event.Event.TheVariants.{Unpin}
 use Rattle.warm_world.specs.Replicas.{answered}
-use Rattle.warm_world.proofs.Worlds.{asks}
+use Rattle.warm_world.proofs.WorldLemmas.{asks}
 use Rattle.warm_world.proofs.world.World.unpin.Goals as goal
 
 pub returns : goal.returns

@@ -1,5 +1,5 @@
 use Rattle.std.proofs.Common.{[], arith}
-use Rattle.warm_world.proofs.Worlds.{workers_at}
+use Rattle.warm_world.proofs.WorldLemmas.{workers_at}
 use Rattle.warm_world.proofs.world.World.worker_count.Goals as goal
 
 pub returns : goal.returns

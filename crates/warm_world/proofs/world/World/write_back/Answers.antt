@@ -1,5 +1,5 @@
 use Rattle.std.proofs.Common.{refl}
-use Rattle.warm_world.proofs.Endings.{fails_if, others_same, same_if, settled_if}
+use Rattle.warm_world.proofs.ReplicaWriteBackLemmas.{fails_if, others_same, same_if, settled_if}
 use Rattle.warm_world.proofs.world.World.write_back.Goals as goal
 
 pub returns-clause-same : goal.returns-clause-same

@@ -1,0 +1,133 @@
+-- The laws of shared shards.
+use Rattle.std.specs.Prelude.{slice_index_or}
+use Rattle.std.proofs.lemmas.List.{length-set}
+use Rattle.std.proofs.Common.{◌≡◌, ◌⊎◌, inl, inr, ℕ, zero, suc, ◌<◌, ◌≤◌, List, [], ◌∷◌, length, refl, sym, ap, subst, ◌∙◌, arith, append-nil}
+use mathlib.Core.List.{IsPrefix}
+use Rattle.warm_history.specs.ReferenceSets.{◌∪◌}
+use Rattle.warm_history.specs.Histories.{history, references_of}
+use Rattle.warm_history.proofs.JoinLemmas.{history_first, history_second}
+use Rattle.warm_turn.specs.CallHistories.{as_spent}
+use Rattle.warm_turn.proofs.PassLemmas.{Extended-called, Widened-joined}
+use Rattle.warm_frames.specs.declared.message.Message.{Message}
+use Rattle.warm_stamps.specs.declared.Reference.{Reference}
+use Rattle.warm_shards.specs.Parts.{part_of_batch}
+use Rattle.warm_shard_machine.specs.declared.calls.ShardCall.{ShardCall}
+use Rattle.warm_shard_machine.specs.declared.calls.ShardCall.TheVariants.{Absorb, Answer, CopyHistory, Offer}
+use Rattle.warm_shard_machine.specs.declared.calls.ShardReply.{ShardReply}
+use Rattle.warm_shard_machine.specs.declared.calls.ShardReply.TheVariants.{Answers, Copied, Done, Kept, Refused}
+use Rattle.warm_concurrent.specs.declared.fault.SharedFault.{SharedFault}
+use Rattle.warm_concurrent.specs.declared.fault.SharedFault.TheVariants.{Node, TurnsSpent}
+use Rattle.warm_concurrent.specs.Answering.{AnswersPart, Offers, offer_at, offer_reply}
+use Rattle.warm_concurrent.specs.Attached.{KeepsOtherPasses, Known, ShardPass, known_of, no_pass, shard_pass}
+use Rattle.warm_concurrent.specs.Clauses.{CallFails, Got}
+use Rattle.warm_concurrent.specs.Copying.{GivesCopy, no_history}
+use Rattle.warm_concurrent.specs.Laws.{OnlySeesMore, OverCalls, SeesMore, TogetherAreOfGiven, all_of, held_by}
+use Rattle.warm_shard_machine.specs.ShardSteps.{ShardStep}
+use Rattle.warm_concurrent.specs.Whole.{AbsorbsPart, Does, First, RaisesShard, TakesPart, part_call}
+use Rattle.warm_shards.proofs.Places.{at_each}
+
+pub together_are_of_given : TogetherAreOfGiven
+together_are_of_given [] [] stand = refl
+together_are_of_given [] (S ∷ Ss) stand = absurd stand
+together_are_of_given (h ∷ hs) [] stand = absurd stand
+together_are_of_given (h ∷ hs) (S ∷ Ss) stand =
+    ap (λ k. history (references_of k ∪ held_by hs)) stand.0
+    ∙ history_first S (held_by hs)
+    ∙ sym (history_second S (held_by hs))
+    ∙ ap (λ k. history (S ∪ references_of k)) (together_are_of_given hs Ss stand.1)
+    ∙ history_second S (all_of Ss)
+
+-- ---- what calls leave of what a thread has
+
+pub below : (a b : ℕ) → (a < b) ⊎ (b ≤ a)
+below zero zero = inr (omega arith)
+below zero (suc b) = inl (omega arith)
+below (suc a) zero = inr (omega arith)
+below (suc a) (suc b) = elim (below a b) [ inl lt ↦ inl (omega (arith, lt)) | inr le ↦ inr (omega (arith, le)) ]
+
+-- A relation that holds of each pass and itself, and of a pass before and after a call, and before and
+-- after it is spent. So it holds of all passes of a thread, before and after each call of shards.
+module _ (P : ShardPass → ShardPass → Type 0) (self : (p : ShardPass) → P p p)
+    (got : (p q : ShardPass) (c : ShardCall) (r : ShardReply) → Got p.view c r q.view → P p q)
+    (spent : (p q : ShardPass) → q.view ≡ as_spent p.view → P p q) where
+  abbrev pub EachIsSo : List ShardPass → List ShardPass → Type 0
+  EachIsSo old new = (length new ≡ length old) × ((i : ℕ) → P (shard_pass old i) (shard_pass new i))
+
+  same_so : (old new : ShardPass) → new ≡ old → P old new
+  same_so old new is = subst (λ (p : ShardPass). P old p) (sym is) (self old)
+
+  -- if one pass changes so, and the others are as they were
+  one_so : (old new : List ShardPass) (i : ℕ) → i < length old → KeepsOtherPasses old i new
+      → P (shard_pass old i) (shard_pass new i) → EachIsSo old new
+  one_so old new i lt others changed = (
+    ap length others ∙ length-set old i (shard_pass new i),
+    λ j. subst (λ (ps : List ShardPass). P (shard_pass old j) (shard_pass ps j)) (sym others)
+        (at_each (λ k q. P (shard_pass old k) q) old i (shard_pass new i) no_pass lt changed (λ k apart. self (shard_pass old k)) j),
+  )
+
+  firsts_so : (So : ℕ → ShardPass → ShardPass → Type 0)
+      → ((i : ℕ) (old new : ShardPass) → So i old new → P old new) → (k : ℕ)
+      → (old new : List ShardPass) → First So k old new → EachIsSo old new
+  firsts_so So each k old new so = (
+    so.count,
+    λ j. elim (below j k) [
+      | inl lt ↦ each j (shard_pass old j) (shard_pass new j) (so.first j lt)
+      | inr le ↦ same_so (shard_pass old j) (shard_pass new j) (so.others j le)
+    ],
+  )
+
+  part_so : (count : ℕ) (batch : List Reference) (i : ℕ) (old new : ShardPass)
+      → AbsorbsPart count batch i old new → P old new
+  part_so count batch i old new so = cases (part_of_batch count i batch) refl
+    where
+      cases : (part : List Reference) → part_of_batch count i batch ≡ part → P old new
+      cases [] is = same_so old new (so.0 is)
+      cases (r ∷ rs) is = got old new (Absorb (part_of_batch count i batch)) Done (so.1 (λ none. let no : r ∷ rs ≡ [] = sym is ∙ none in absurd (cc)))
+
+  -- a shard that has none of the requested buckets was not called
+  answer_so : (count request : ℕ) (messages : List Message) (i : ℕ) (old new : ShardPass)
+      → AnswersPart count request messages i old new → P old new
+  answer_so count request messages i old new (part, own, none, some) = cases part refl
+    where
+      cases : (p : ℕ) → part ≡ p → P old new
+      cases zero is = same_so old new (none is).1
+      cases (suc p) is = got old new (Answer part) (Answers messages) (some (λ zero_part. let no : suc p ≡ 0 = sym is ∙ zero_part in absurd (omega (arith, no))))
+
+  -- a call that was refused, or found no ticket
+  fails_so : (old new : List ShardPass) (i : ℕ) (c : ShardCall) (why : SharedFault) → i < length old
+      → CallFails old i c why new → EachIsSo old new
+  fails_so old new i c (Node why) lt fails =
+      one_so old new i lt fails.1 (got (shard_pass old i) (shard_pass new i) c (Refused why) fails.0)
+  fails_so old new i c TurnsSpent lt fails =
+      one_so old new i lt fails.1 (spent (shard_pass old i) (shard_pass new i) fails.0)
+  fails_so old new i c why lt fails = absurd fails
+
+  pub over_calls : (So : List ShardPass → List ShardPass → Type 0)
+      → ((old new : List ShardPass) → EachIsSo old new → So old new) → OverCalls So
+  over_calls So from = record {
+    called = λ old new i call reply lt so. from old new (one_so old new i lt so.1 (got (shard_pass old i) (shard_pass new i) call reply so.0));
+    refused = λ old new i call why lt fails. from old new (fails_so old new i call why lt fails);
+    absorbed = λ old new k batch so. from old new (firsts_so (AbsorbsPart (length old) batch) (part_so (length old) batch) k old new so);
+    raised = λ old new k time so. from old new (firsts_so (RaisesShard time) (λ i p q r. got p q _ (Kept r.0) r.1) k old new so);
+    taken = λ old new k message so. from old new (firsts_so (TakesPart (length old) message) (λ i p q r. got p q (part_call (length old) message i) Done r) k old new so);
+    done = λ old new k call so. from old new (firsts_so (Does call) (λ i p q r. got p q call Done r) k old new so);
+    offered = λ old new offers k so. from old new (firsts_so (λ i. Offers (offer_at offers i) i) (λ i p q r. got p q Offer (offer_reply (offer_at offers i)) r) k old new so.1);
+    answered = λ old new request parts k so. from old new (firsts_so (λ i. AnswersPart (length old) request (slice_index_or parts i []) i) (λ i. answer_so (length old) request (slice_index_or parts i []) i) k old new so.1);
+    copied = λ old new copies k so. from old new (firsts_so (λ i. GivesCopy (slice_index_or copies i no_history) i) (λ i p q r. got p q CopyHistory (Copied (slice_index_or copies i no_history)) r) k old new so.1);
+  }
+
+-- ---- what a thread has seen
+
+prefix_self : {A : Type 0} (xs : List A) → IsPrefix xs xs
+prefix_self xs = ([], append-nil xs)
+
+-- what was seen stays once a pass is spent
+seen_spent : (p q : ShardPass) → q.view ≡ as_spent p.view → IsPrefix p.view.seen q.view.seen
+seen_spent p q is =
+    subst (λ (v : Known). IsPrefix p.view.seen v.seen) (sym is) (prefix_self p.view.seen)
+
+pub only_sees_more : OnlySeesMore
+only_sees_more = record {
+  calls = over_calls (λ p q. IsPrefix p.view.seen q.view.seen) (λ p. prefix_self p.view.seen) (λ p q c r called. (Extended-called ShardStep p.view q.view c r called).seen) seen_spent SeesMore (λ old new so i lt. so.1 i);
+  joined = λ old other new so i lt. (Widened-joined ShardStep (known_of old i) (known_of other i) (known_of new i) (so.each i lt)).seen;
+}
