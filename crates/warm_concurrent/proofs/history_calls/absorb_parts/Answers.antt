@@ -83,4 +83,4 @@ returns-in-Err-clause-stopped g c =
     let some : part_of_batch (length old) k batch ≢ [] = λ none. absurd (eqb-false part.len 0 (sym c.is_empty.ensures ∙ c.if-is_empty.false) (omega (arith, part.ok.0, ap length (at.1 ∙ none)))) in
     let fails : CallFails mid k (Absorb (part_of_batch (length old) k batch)) c.in-Err.fault new =
     subst (λ (rs : List Reference). CallFails mid k (Absorb rs) c.in-Err.fault new) (c.of.ensures ∙ at.1) c.in-Err.ensures.ends in
-    inr (mid, (at.0, (some, (i.first, fails))))
+    inr (mid, at.0, some, i.first, fails)
