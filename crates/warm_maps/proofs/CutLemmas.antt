@@ -1,4 +1,4 @@
--- What is left of pairs at a horizon keeps what is left of their history.
+-- What is left of pairs at a horizon.
 use Rattle.std.proofs.Common.{◌≡◌, ℕ, Bool, true, false, cond, List, [], ◌∷◌, ◌++◌, length, zero, suc, get_or, slice_set, map, take, drop, sym, ap, refl, ◌∙◌, subst, Option, Some, None, arith, ◌+◌, ◌≤◌, ◌<◌}
 use Rattle.std.specs.List.{AllByRecursion, cons_option}
 use Rattle.std.specs.Option.{option_map}

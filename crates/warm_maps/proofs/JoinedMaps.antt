@@ -12,7 +12,7 @@ use Rattle.warm_maps.specs.BucketMaps.{all_pairs, AreBuckets, KeysAscend, LiesIn
 use Rattle.warm_maps.specs.Cuts.{cut_at}
 use Rattle.warm_maps.specs.NearPairs.{full, fulls, near_pairs, far_pairs, widened, AreMapsOf, IsFar, IsMapOf}
 use Rattle.warm_maps.specs.Walks.{joined_pairs, merged, DiffersAt}
-use Rattle.warm_maps.specs.NearJoins.{joined_maps, DiffersIn, EachAscends, EachFew, HasChanged, IsNear, KeepsIn, NoFar, TellsBuckets}
+use Rattle.warm_maps.specs.NearJoins.{joined_maps, DiffersIn, EachAscends, EachFew, HasChanged, IsNear, SamePairsIn, NoFar, TellsBuckets}
 use Rattle.warm_maps.proofs.BucketLemmas.{find_joined}
 use Rattle.warm_maps.proofs.BucketParts.{chosen_joined}
 use Rattle.warm_maps.proofs.BucketSteps.{bucket_in, rise_first, rise_later}
@@ -213,7 +213,7 @@ same_number i = omega arith
 tells_bucket : (h i bit : ℕ) (fs gs : List MapPairs) → AreBuckets 0 fs → AreBuckets 0 gs
     → AreBuckets 0 (joined_maps h fs gs) → AllKeys IsMapKey (all_pairs gs) → TellsAt h i fs gs bit
     → (bit ≡ 1 → DiffersIn i (all_pairs fs) (all_pairs (joined_maps h fs gs)))
-    × (bit ≡ 0 → KeepsIn i (all_pairs fs) (all_pairs (joined_maps h fs gs)))
+    × (bit ≡ 0 → SamePairsIn i (all_pairs fs) (all_pairs (joined_maps h fs gs)))
 tells_bucket h i bit fs gs are also new keys tells = (
   (λ one.
       let differs = tells.0 one in
@@ -240,7 +240,7 @@ tells_all h ms ns rs old more set joined are new also none long all view other k
     let as_long : length gs ≡ length fs = length_fulls 0 rs ∙ long ∙ sym (length_fulls 0 ms) in
     let told : TellsAt h bucket fs gs (bit_at set bucket) = subst (λ k. TellsAt h bucket fs gs (bit_at set k)) (same_number bucket) (tells_at h 0 bucket fs gs set (changed_fulls h 0 ms rs set are also none changed) there as_long) in
     let tells = tells_bucket h bucket (bit_at set bucket) fs gs (buckets_of 0 ms are) (buckets_of 0 rs also) (subst (AreBuckets 0) joined (buckets_of 0 ns new)) (subst (AllKeys IsMapKey) (sym other) keys) told in
-    let P : MapPairs → MapPairs → Type 0 = λ s t. (bit_at set bucket ≡ 1 → DiffersIn bucket s t) × (bit_at set bucket ≡ 0 → KeepsIn bucket s t) in
+    let P : MapPairs → MapPairs → Type 0 = λ s t. (bit_at set bucket ≡ 1 → DiffersIn bucket s t) × (bit_at set bucket ≡ 0 → SamePairsIn bucket s t) in
     subst (λ s. P s (all_pairs (fulls 0 ns))) view (subst (P (all_pairs fs)) (sym (ap all_pairs joined)) tells)
 
 -- ---- what holds of a result

@@ -136,7 +136,7 @@ length_entries (e ∷ pairs) = ap suc (length_entries pairs)
 
 -- ---- an entry more is kept
 
--- what is put at a key keeps the pairs as those of a history are
+-- what is put at a key keeps the invariant of pairs
 pub kept_more : (old new : MapPairs) (p : ℕ) (h : PageHist) (ss : List Stamp) → IsMapKey p
     → AreKept old → Some h ≡ latest_of ss → new ≡ insert_entry nat_cmp old p h → AreKept new
 kept_more old new p h ss is are latest is_new = subst AreKept (sym is_new) (record {

@@ -1,4 +1,4 @@
--- The maps of two histories, merged bucket by bucket.
+-- Two lists of maps, merged bucket by bucket.
 use Rattle.std.proofs.Common.{◌≡◌, ℕ, ◌+◌, ◌^◌, ◌<◌, zero, suc, inl, inr, List, [], ◌∷◌, ◌++◌, sym, ap, refl, ◌∙◌, subst, arith, length, Option, Some, None, bit_or}
 use Rattle.std.specs.List.{cons_option}
 use Rattle.std.specs.Option.{option_map, option_or}

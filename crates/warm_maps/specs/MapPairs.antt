@@ -16,8 +16,7 @@ MapPairs = List (ℕ × PageHist)
 abbrev pub as_entries : MapPairs → List Entry
 as_entries pairs = map (λ e. record { page = page_of_key e.0; hist = e.1 }) pairs
 
--- the invariant of the pairs of a history: they lie at rising valid keys, and the stamps of each
--- fall
+-- the invariant of pairs: they lie at rising valid keys, and the stamps of each fall
 pub record AreKept (pairs : MapPairs) : Type 0 where
   pub keys_ascend : IsAscending (on (λ e. e.0) nat_cmp) pairs
   pub are_keys : AllByRecursion (λ e. IsMapKey e.0) pairs

@@ -1,4 +1,4 @@
--- The maps of two histories, merged bucket by bucket.
+-- Two lists of maps, merged bucket by bucket.
 use Rattle.std.specs.Prelude.{◌≡◌, ◌≢◌, ◌⊎◌, ℕ, ◌+◌, ◌*◌, ◌%◌, ◌<◌, ◌^◌, length, filter, Bool, true}
 use Rattle.std.specs.Prelude.{false, List, [], ◌∷◌, ⊤, Option, Some, None, bit_or}
 use Rattle.std.specs.Int.{bit_at}
@@ -69,12 +69,12 @@ DiffersIn bucket old new = (key : ℕ) × LiesIn bucket key × IsMapKey key
     × (found key new ≢ found key old)
 
 -- the new pairs are the same in the bucket: a test that only its keys pass selects the same of both
-abbrev pub KeepsIn : ℕ → MapPairs → MapPairs → Type 0
-KeepsIn bucket old new = (test : ℕ → Bool) → PassesIn bucket test
+abbrev pub SamePairsIn : ℕ → MapPairs → MapPairs → Type 0
+SamePairsIn bucket old new = (test : ℕ → Bool) → PassesIn bucket test
     → filter (λ e. test e.0) new ≡ filter (λ e. test e.0) old
 
 -- a bucket is in the set exactly where its pairs change
 abbrev pub TellsBuckets : ℕ → MapPairs → MapPairs → Type 0
 TellsBuckets set old new = (bucket : ℕ) → bucket < BUCKETS
     → (bit_at set bucket ≡ 1 → DiffersIn bucket old new)
-    × (bit_at set bucket ≡ 0 → KeepsIn bucket old new)
+    × (bit_at set bucket ≡ 0 → SamePairsIn bucket old new)

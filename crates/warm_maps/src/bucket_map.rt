@@ -1,5 +1,5 @@
 //! The pages of one bucket: those of near devices in a map of near keys, and the others in a map
-//! of full keys, which is empty in nearly all histories.
+//! of full keys, which is nearly always empty.
 //!
 //! A search compares a near key in half the time of a full one, and a near pair has 32 bytes.
 ghost use Rattle.std.specs.Iterator.{YieldsFirst};
@@ -259,8 +259,9 @@ impl<'a> BucketPairs<'a> {
     }
 
     /// The first of the pairs that are left, as an entry. Allocation-free.
-    // It is not made from what is lent: a page has padding, and each further move of it would copy
-    // it in pieces.
+    ///
+    /// It is not made from what is lent: a page has padding, and each further move of it would copy
+    /// it in pieces.
     #[inline(always)]
     pub fn next_entry(&mut self) -> Option<Entry>
         ensures { YieldsFirst (λ (left : _). as_entries left) self.old result self.new }
@@ -288,7 +289,8 @@ fn next_far<'a>(far: &mut Range<'a, u128, Packed>) -> Option<Lent<'a>>
 }
 
 /// The first `limit` of some pairs, as entries. `AllocError` occurs if their allocation fails.
-// They are taken map by map, and each is written into the list at once.
+///
+/// They are taken map by map, and each is written into the list at once.
 pub fn first_entries(
     alloc: Global,
     pairs: BucketPairs<'_>,

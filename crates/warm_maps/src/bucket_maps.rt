@@ -224,9 +224,9 @@ impl BucketMaps {
 }
 
 /// Iterates over all pages, bucket by bucket.
+/// It has the pairs left of the current bucket, and the buckets from a number on.
 ///
 /// Contracts see it as the list of the entries that are left.
-// The pairs left of the current bucket, then those of the buckets from a number on.
 #[derive(Debug, Drop)]
 pub struct EachEntry<'a> {
     here: BucketPairs<'a>,

@@ -1,4 +1,4 @@
-//! The maps of two histories, merged bucket by bucket, each in one walk.
+//! The maps of two `BucketMaps`, merged bucket by bucket, each in one walk.
 //!
 //! A walk only reads, and lists what changes. The new pairs of a bucket are put in before the next
 //! bucket is walked. The values that change are written once all buckets have their new pairs: from

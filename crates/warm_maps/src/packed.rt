@@ -15,8 +15,9 @@ use crate::hist::{PageHist, Two};
 use std::marker::Model;
 use warm_stamps::{ReplicaId, Stamp};
 
-/// The history of a page. Contracts see it as the `PageHist`.
-// It has no padding: a move would copy a padded value in pieces.
+/// The history of a page in 24 bytes. Contracts see it as the `PageHist`.
+///
+/// It has no padding: a move would copy a padded value in pieces.
 #[derive(Debug, Clone, Copy)]
 pub struct Packed {
     last: u64,
