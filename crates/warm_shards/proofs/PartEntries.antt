@@ -8,9 +8,9 @@ use Rattle.warm_stamps.specs.Stamps.{page_cmp}
 use Rattle.warm_stamps.proofs.DistinctLemmas.{rising_filter}
 use Rattle.warm_stamps.specs.declared.Reference.{Reference}
 use Rattle.warm_stamps.specs.declared.Stamp.{Stamp}
-use Rattle.warm_history.specs.declared.hist.Entry.{Entry}
-use Rattle.warm_history.specs.declared.hist.PageHist.{PageHist}
-use Rattle.warm_history.specs.declared.hist.PageHist.TheVariants.{Once, Twice}
+use Rattle.warm_history.specs.Entry.{Entry}
+use Rattle.warm_history.specs.PageHist.{PageHist}
+use Rattle.warm_history.specs.PageHist.TheVariants.{Once, Twice}
 use Rattle.warm_history.specs.ReferenceSets.{ReferenceSet, set_of_list}
 use Rattle.warm_history.specs.Histories.{history_of_entries_at, references_of}
 use Rattle.warm_history.specs.ListHistories.{hist_stamps, list_references_of, references_of_entry}

@@ -1,5 +1,5 @@
 use Rattle.std.proofs.Common.{◌+◌, ◌^◌, List, take, bit_or, rules, sym, ap, subst, ◌∙◌, take_all}
-use Rattle.warm_history.specs.declared.hist.Entry.{Entry}
+use Rattle.warm_history.specs.Entry.{Entry}
 use Rattle.warm_shards.specs.Shards.{shard_of}
 use Rattle.warm_c.specs.Parts.{HasBits, entry_pages, shards_of}
 use Rattle.warm_c.proofs.ShardBitLemmas.{bits_more}

@@ -2,7 +2,7 @@ use Rattle.std.proofs.Common.{◌≡◌, inr, length, sym, ap, ◌∙◌, arith}
 use Rattle.std.specs.Global.{Vec}
 use Rattle.std.proofs.lemmas.Result.{err_from_is_err_and}
 use Rattle.std.proofs.lemmas.Bool.{eqb-false, eqb-true}
-use Rattle.warm_history.specs.declared.hist.Entry.{Entry}
+use Rattle.warm_history.specs.Entry.{Entry}
 use Rattle.warm_history.specs.Histories.{history_of_entries_at, references_of}
 use Rattle.warm_shards.specs.Parts.{part_of_entries}
 use Rattle.warm_shards.proofs.GivenLemmas.{given_more, given_past, given_stays, gives_all, gives_first, gives_none, none_given}
