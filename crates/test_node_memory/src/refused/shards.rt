@@ -6,7 +6,7 @@ use test_kit::{history_of_pages, references_to, replica};
 use warm_devices::MemDevice;
 use warm_frames::Message;
 use warm_gossip::NodeFault;
-use warm_shards::{Shards, parts_of};
+use warm_shards::{Shards, is_shard_count, parts_of};
 use warm_stamps::Bucket;
 
 pub(crate) type TwoShards = Shards<MemDevice>;
@@ -57,13 +57,16 @@ pub(crate) fn made(met: &mut Met, alloc: Global) -> Result<TwoShards, Ended> {
 }
 
 // The parts of a batch of pages 0 to 5: three of each shard.
-fn divide(met: &mut Met, alloc: Global) -> Result<(), Ended> {
+fn divide(met: &mut Met, alloc: Global, count: usize) -> Result<(), Ended> {
+    if !is_shard_count(count) {
+        return Err(met.broken("there can be two shards"));
+    }
     let batch = references_to(alloc, 0, 6, 10)?;
-    let parts = match parts_of(alloc, &batch, 2) {
+    let parts = match parts_of(alloc, &batch, count) {
         Ok(parts) => parts,
         Err(_) => {
             met.count();
-            parts_of(alloc, &batch, 2)?
+            parts_of(alloc, &batch, count)?
         }
     };
     let is_divided = parts.len() == 2 && parts[0].len() == 3 && parts[1].len() == 3;
@@ -195,7 +198,7 @@ fn join(met: &mut Met, alloc: Global, shards: &mut TwoShards) -> Result<(), Ende
 
 // All calls on two shards, one after the other.
 pub(crate) fn rows(met: &mut Met, alloc: Global) -> Result<(), Ended> {
-    divide(met, alloc)?;
+    divide(met, alloc, 2)?;
     let mut shards = made(met, alloc)?;
     absorb(met, alloc, &mut shards)?;
     offer(met, &mut shards)?;
