@@ -23,3 +23,4 @@ pub mod ShardsOfNodesLemmas
 pub mod HoldsPagesLemmas
 pub mod LawsHold
 pub mod Examples
+pub mod VisitExamples
