@@ -24,3 +24,11 @@ pub mod HoldsPagesLemmas
 pub mod LawsHold
 pub mod Examples
 pub mod VisitExamples
+pub mod VisitReads
+pub mod VisitReadsPortions
+pub mod VisitReadsSends
+pub mod VisitReadsOffers
+pub mod VisitReadsCopies
+pub mod VisitReadsRaised
+pub mod VisitReadsDigests
+pub mod VisitReadsLaws
