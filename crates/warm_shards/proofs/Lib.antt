@@ -32,3 +32,4 @@ pub mod VisitReadsCopies
 pub mod VisitReadsRaised
 pub mod VisitReadsDigests
 pub mod VisitReadsLaws
+pub mod VisitErrands
