@@ -33,3 +33,4 @@ pub mod VisitReadsRaised
 pub mod VisitReadsDigests
 pub mod VisitReadsLaws
 pub mod VisitErrands
+pub mod VisitReadsSending

@@ -63,7 +63,7 @@ portion_is id h bucket after valid =
     ap (λ es. Entries id h.horizon es) (since_entries h bucket 0 after MAX_ENTRIES valid)
 
 -- the page of the last of the first ones
-last_of_first : (k : ℕ) (es : List Entry) → k < length es
+pub last_of_first : (k : ℕ) (es : List Entry) → k < length es
     → (e : Entry) × (slice_get es k ≡ Some e) × (last_page (take (suc k) es) ≡ Some e.page)
 last_of_first k [] lt = absurd (omega (arith, lt))
 last_of_first zero (e ∷ es) lt = (e, refl, refl)

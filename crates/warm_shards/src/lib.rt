@@ -19,6 +19,7 @@ mod batch_parts;
 mod each_shard;
 mod engine_calls;
 mod fault;
+mod gathering;
 mod gossip;
 mod history_calls;
 mod joining;
@@ -26,6 +27,7 @@ pub mod laws;
 mod lending;
 mod message_parts;
 mod pool_calls;
+mod sending;
 mod shards;
 mod shards_of_nodes;
 
