@@ -24,3 +24,7 @@ pub mod HoldsPagesLemmas
 pub mod LawsHold
 pub mod Examples
 pub mod VisitExamples
+pub mod VisitPlans
+pub mod VisitEntries
+pub mod VisitLemmas
+pub mod VisitSweeps

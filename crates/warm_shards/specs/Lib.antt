@@ -11,3 +11,4 @@ pub mod Laws
 pub mod PartLaws
 pub mod Visits
 pub mod VisitLaws
+pub mod VisitParts

@@ -19,6 +19,8 @@ mod batch_parts;
 mod each_shard;
 mod engine_calls;
 mod fault;
+mod giving;
+mod go_through;
 mod gossip;
 mod history_calls;
 mod joining;
@@ -28,6 +30,7 @@ mod message_parts;
 mod pool_calls;
 mod shards;
 mod shards_of_nodes;
+mod visit;
 
 pub use answers::fill_digests;
 pub use batch_parts::parts_of;
@@ -35,3 +38,5 @@ pub use fault::{ShardsError, ShardsFault};
 pub use message_parts::{part_of_entries, part_of_message};
 pub use pool_calls::ShardSlot;
 pub use shards::{Shards, frames_of_shard, is_shard_count, shard_of};
+pub use visit::Visit;
+
