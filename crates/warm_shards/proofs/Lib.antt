@@ -34,3 +34,7 @@ pub mod VisitReadsDigests
 pub mod VisitReadsLaws
 pub mod VisitErrands
 pub mod VisitReadsSending
+pub mod VisitPlans
+pub mod VisitEntries
+pub mod VisitLemmas
+pub mod VisitSweeps

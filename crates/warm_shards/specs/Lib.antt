@@ -12,3 +12,4 @@ pub mod PartLaws
 pub mod Visits
 pub mod VisitLaws
 pub mod VisitReads
+pub mod VisitParts

@@ -15,6 +15,7 @@ use crate::answers::{answer_to_digests, answered, gathered, requested};
 use crate::history_calls::raise_all;
 use crate::joining::join_parts;
 use crate::shards::Shards;
+use crate::visit::entries_of;
 use std::alloc::{AllocError, Global};
 use warm_devices::PageDevice;
 use warm_frames::{Message, MessageList};
@@ -56,13 +57,6 @@ fn received<D: PageDevice>(
             Ok(MessageList::of(messages))
         }
     }
-}
-
-// The entries of a history.
-fn entries_of(alloc: Global, history: &History) -> Result<Vec<Entry>, AllocError>
-    ensures { IfOk result (λ entries. entries.items ≡ entries_of history.now) }
-{
-    history.iter().collect(alloc)
 }
 
 // Raises all shards to the horizon of another history, and takes its entries in.

@@ -20,6 +20,8 @@ mod each_shard;
 mod engine_calls;
 mod fault;
 mod gathering;
+mod giving;
+mod go_through;
 mod gossip;
 mod history_calls;
 mod joining;
@@ -30,6 +32,7 @@ mod pool_calls;
 mod sending;
 mod shards;
 mod shards_of_nodes;
+mod visit;
 
 pub use answers::fill_digests;
 pub use batch_parts::parts_of;
@@ -37,3 +40,5 @@ pub use fault::{ShardsError, ShardsFault};
 pub use message_parts::{part_of_entries, part_of_message};
 pub use pool_calls::ShardSlot;
 pub use shards::{Shards, frames_of_shard, is_shard_count, shard_of};
+pub use visit::Visit;
+
