@@ -38,3 +38,4 @@ pub mod VisitPlans
 pub mod VisitEntries
 pub mod VisitLemmas
 pub mod VisitSweeps
+pub mod VisitReadsTasks

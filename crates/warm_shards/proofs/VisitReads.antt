@@ -15,6 +15,7 @@ use Rattle.warm_gossip.specs.State.{NodeState}
 use Rattle.warm_shards.specs.Clauses.{SameShards}
 use Rattle.warm_shards.specs.Given.{IsSame}
 use Rattle.warm_shards.specs.Shards.{shard_at}
+use Rattle.warm_shards.specs.VisitReads.{from_shard}
 use Rattle.warm_shards.specs.VisitLaws.{Alone, EntersAlone}
 use Rattle.warm_shards.specs.Visits.{After, Ask, Enters, Errand, Made, NodeSays, Said, Takes, VisitState}
 use Rattle.warm_shards.specs.Visits.{at_shard, copied, copying, offered, offering, refused, shard_next}
@@ -75,10 +76,6 @@ visit_at id count plan made after stopped = record {
   after = after;
   stopped = stopped;
 }
-
--- the same errand at each shard from this one on
-abbrev pub from_shard : ℕ → ℕ → Ask → List Errand
-from_shard first count ask = map (λ i. at_shard i ask) (range_with_len first (count - first))
 
 pub errand_here : (first count : ℕ) (ask : Ask) → first < count
     → from_shard first count ask ≡ at_shard first ask ∷ from_shard (first + 1) count ask

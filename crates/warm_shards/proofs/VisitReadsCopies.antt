@@ -11,11 +11,12 @@ use Rattle.warm_shards.specs.Visits.{Errand, Said, Takes, VisitState}
 use Rattle.warm_shards.specs.Visits.{copying, ends, joined, next_shard, onward}
 use Rattle.warm_shards.proofs.Calls.{same_histories}
 use Rattle.warm_shards.proofs.WholeLemmas.{whole_more}
-use Rattle.warm_shards.proofs.VisitReads.{EntersAt, all_there, copying_said, enters_at, errand_here, from_shard, next_there, same_read, visit_at}
+use Rattle.warm_shards.specs.VisitReads.{from_shard}
+use Rattle.warm_shards.proofs.VisitReads.{EntersAt, all_there, copying_said, enters_at, errand_here, next_there, same_read, visit_at}
 
 -- the visit has the histories of the first k shards
-abbrev pub copying_visit : List NodeState → ℕ → Bool → VisitState
-copying_visit old k stopped =
+abbrev pub copies_visit : List NodeState → ℕ → Bool → VisitState
+copies_visit old k stopped =
     visit_at (shard_at old 0).id (length old) (from_shard k (length old) copying) (joined (whole (take k old))) ends stopped
 
 -- The first k shards are copied, and the visit has the others left; or one has refused.
@@ -24,17 +25,17 @@ pub record Copies (old : List NodeState) (s : Alone) : Type 0 where
   pub within : k ≤ length old
   pub same : SameShards old s.shards
   pub stopped : Bool
-  pub visit : s.visit ≡ copying_visit old k stopped
+  pub visit : s.visit ≡ copies_visit old k stopped
 
 copies_at : (old : List NodeState) → (s y : Alone) (said : Said) (have : Copies old s)
     → have.k < length old
-    → EntersAt (copying_visit old have.k have.stopped) s.shards have.k copying (from_shard (have.k + 1) (length old) copying) said y
+    → EntersAt (copies_visit old have.k have.stopped) s.shards have.k copying (from_shard (have.k + 1) (length old) copying) said y
     → Copies old y
 copies_at old s y said have lt here =
     let k = have.k in
     let count = length old in
     let later = from_shard (k + 1) count copying in
-    let v = copying_visit old k have.stopped in
+    let v = copies_visit old k have.stopped in
     let there : k < length s.shards = omega (arith, lt, have.same.count) in
     elim (copying_said (shard_at s.shards k) (shard_at y.shards k) said here.says) [
       | inl (h, is, at, same) ↦
@@ -65,7 +66,7 @@ pub copies_on : (old : List NodeState) (s y : Alone) (e : Errand) (said : Said) 
     → EntersAlone s e said y → Copies old y
 copies_on old s y e said have entered =
     let count = length old in
-    let v = copying_visit old have.k have.stopped in
+    let v = copies_visit old have.k have.stopped in
     let lt : have.k < count = next_there s y e said v have.k count copying have.visit refl have.within entered in
     copies_at old s y said have lt (enters_at s y e said v have.k copying (from_shard (have.k + 1) count copying) have.visit (errand_here have.k count copying lt) entered)
 

@@ -12,7 +12,8 @@ use Rattle.warm_shards.specs.Clauses.{SameShards}
 use Rattle.warm_shards.specs.Shards.{AreShards, shard_at, whole}
 use Rattle.warm_shards.specs.VisitLaws.{Alone, EntersAlone}
 use Rattle.warm_shards.specs.Visits.{After, Compares, Errand, Said, VisitState, answered, answers_of, compares, ends, gathered, next_shard, offering, requests, send_plan}
-use Rattle.warm_shards.proofs.VisitReads.{all_there, errand_here, errand_none, from_shard, visit_at}
+use Rattle.warm_shards.specs.VisitReads.{from_shard}
+use Rattle.warm_shards.proofs.VisitReads.{all_there, errand_here, errand_none, visit_at}
 use Rattle.warm_shards.proofs.VisitReadsOffers.{HasOffered, Offered, Offers, all_offered, goes_next, not_compared, offers_one}
 use Rattle.warm_shards.proofs.VisitReadsSends.{Sends, all_sent, sends_first, sends_on}
 

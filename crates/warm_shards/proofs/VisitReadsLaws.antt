@@ -19,7 +19,8 @@ use Rattle.warm_shards.proofs.AreShardsLemmas.{some_shards}
 use Rattle.warm_shards.proofs.Calls.{keep_then, same_keeps, same_none, same_shards, same_whole}
 use Rattle.warm_shards.proofs.GivenLemmas.{raised_alone}
 use Rattle.warm_shards.proofs.Receiving.{digests_received, raised_id, request_received}
-use Rattle.warm_shards.proofs.VisitReads.{all_keep, all_there, from_shard, visit_at}
+use Rattle.warm_shards.specs.VisitReads.{from_shard}
+use Rattle.warm_shards.proofs.VisitReads.{all_keep, all_there, visit_at}
 use Rattle.warm_shards.proofs.VisitReadsCopies.{Copies, all_copied, copies_on}
 use Rattle.warm_shards.proofs.VisitReadsDigests.{Comparing, answer_made, compares_on, same_compared}
 use Rattle.warm_shards.proofs.VisitReadsOffers.{Offered, Offers, all_offered, goes_next, nothing_compared, offers_first, offers_one}

@@ -19,7 +19,8 @@ use Rattle.warm_shards.proofs.AreShardsLemmas.{some_shards}
 use Rattle.warm_shards.proofs.Buckets.{shard_horizon}
 use Rattle.warm_shards.proofs.Calls.{same_histories}
 use Rattle.warm_shards.proofs.DigestLemmas.{AreGathered, all_gathered}
-use Rattle.warm_shards.proofs.VisitReads.{EntersAt, enters_at, errand_here, from_shard, next_there, offering_said, same_read, visit_at}
+use Rattle.warm_shards.specs.VisitReads.{from_shard}
+use Rattle.warm_shards.proofs.VisitReads.{EntersAt, enters_at, errand_here, next_there, offering_said, same_read, visit_at}
 
 -- what the first k shards offer: the digests of their buckets, at the horizon of all
 pub record Offered (old : List NodeState) (k latest : ℕ) (table : List (List ℕ)) : Type 0 where

@@ -14,7 +14,8 @@ use Rattle.warm_shards.specs.Visits.{After, Ask, Errand, Made, NodeSays, Said, T
 use Rattle.warm_shards.specs.Visits.{at_each, at_shard, given, giving, keeps, next_shard, onward, refused, shard_next}
 use Rattle.warm_shards.proofs.EachShardLemmas.{gone_more, none_gone}
 use Rattle.warm_shards.proofs.GivenLemmas.{risen_all}
-use Rattle.warm_shards.proofs.VisitReads.{enters_at, errand_here, errand_none, from_shard, visit_at}
+use Rattle.warm_shards.specs.VisitReads.{from_shard}
+use Rattle.warm_shards.proofs.VisitReads.{enters_at, errand_here, errand_none, visit_at}
 
 -- a horizon alone is not refused
 risen_said : (n m : NodeState) (time : ℕ) (said : Said)

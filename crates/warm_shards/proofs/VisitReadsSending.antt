@@ -126,7 +126,9 @@ sends_more id count bucket s t n message at bucket_is later want is follow made 
     let fewer : pages_after t.after < pages_after s.after = subst (λ p. pages_after p < pages_after s.after) (sym next) (fewer_pages s.after e.0.page page (left_is_later n.history bucket s.after 999 e.0 e.1)) in
     record {
       entered = has_sent id count bucket s t n message true at want is follow made (plan ∙ ap (λ p. at_shard i (sending bucket p) ∷ rest) last);
+      id = refl;
       going = refl;
+      made = tt;
       shorter = shorter_plan (entries_after (asks_for id s.want)) (entries_after (asks_for id t.want)) (send_from count s.bucket s.later s.after) (send_from count t.bucket t.later t.after) rest (at_shard i (sending bucket s.after)) (pages_after t.after + 1)
           (ap (λ b. send_from count b s.later s.after) at) (ap entries_for_all plan) (omega (arith, fewer)) (ap (λ x. entries_after (asks_for id x)) want);
       count = refl;
@@ -153,7 +155,9 @@ sends_last id count bucket s t n message at want steps none is follow made =
     let plan : send_from count t.bucket t.later t.after ≡ rest = ap (λ p. send_from count t.bucket t.later p) none ∙ next_bucket count t.bucket s.later t.later steps in
     record {
       entered = has_sent id count bucket s t n message false at want is follow made plan;
+      id = refl;
       going = refl;
+      made = tt;
       shorter = shorter_plan (entries_after (asks_for id s.want)) (entries_after (asks_for id t.want)) (send_from count s.bucket s.later s.after) (send_from count t.bucket t.later t.after) rest (at_shard i (sending bucket s.after)) 0
           (ap (λ b. send_from count b s.later s.after) at) (omega (arith, ap entries_for_all plan)) (omega arith) (ap (λ x. entries_after (asks_for id x)) want);
       count = refl;

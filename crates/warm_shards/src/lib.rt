@@ -29,6 +29,7 @@ pub mod laws;
 mod lending;
 mod message_parts;
 mod pool_calls;
+mod reading;
 mod sending;
 mod shards;
 mod shards_of_nodes;
