@@ -1,5 +1,5 @@
 -- One entry of a visit that gathers digests, or that copies.
-use Rattle.std.proofs.Common.{◌≡◌, ◌⊎◌, inl, inr, ℕ, ◌+◌, ◌*◌, ◌<◌, ◌≤◌, Bool, true, false, List, [], ◌∷◌, if◌then◌else◌, None, Ok, Some, refl, sym, ap, subst, ◌∙◌, arith}
+use Rattle.std.proofs.Common.{◌≡◌, ◌⊎◌, inl, inr, ℕ, ◌+◌, ◌*◌, ◌<◌, ◌≤◌, Bool, true, false, List, [], ◌∷◌, if◌then◌else◌, Option, None, Ok, Some, refl, sym, ap, subst, ◌∙◌, arith}
 use Rattle.std.specs.Prelude.{◌==◌}
 use Rattle.warm_stamps.specs.declared.TheConstants.{BUCKETS}
 use Rattle.warm_history.specs.Histories.{HistoryView, join}
@@ -13,7 +13,7 @@ use Rattle.warm_shards.specs.Visits.{After, Compares, Errand, HasEntered, Made, 
 use Rattle.warm_shards.specs.Visits.{at_shard, begun, compares, copied, copying, ends, entries_after}
 use Rattle.warm_shards.specs.Visits.{entries_for, entries_for_all, entries_left, gathered, joined}
 use Rattle.warm_shards.specs.Visits.{offered, offering, refused, requests, sending}
-use Rattle.warm_shards.specs.VisitReads.{AddsOffer, HasRead, copying_visit, from_shard, gathered_in, gathering_visit, sending_visit, waits_for}
+use Rattle.warm_shards.specs.VisitReads.{AddsOffer, HasRead, IsBefore, copying_visit, from_shard, gathered_in, gathering_visit, sending_visit, waits_for}
 use Rattle.warm_shards.proofs.Calls.{bytes_same}
 use Rattle.warm_shards.proofs.VisitReads.{errand_here, errand_none}
 use Rattle.warm_shards.proofs.VisitReadsSending.{few_entries}
@@ -170,3 +170,16 @@ gathers_refused id count g n m lt says =
       says = says;
       takes = refl;
     })
+
+pub before_some : (shard count : ℕ) (waiting : Option (List (List ℕ))) → shard < count
+    → IsBefore shard count waiting
+before_some shard count None lt = omega (arith, lt)
+before_some shard count (Some digests) lt = lt
+
+pub before_none : (shard count : ℕ) (waiting : Option (List (List ℕ))) → shard ≤ count
+    → waiting ≡ None → IsBefore shard count waiting
+before_none shard count waiting le none = subst (IsBefore shard count) (sym none) le
+
+pub none_if : {A : Type 0} (x : Option A) → ((y : A) → x ≡ Some y → ⊥) → x ≡ None
+none_if None not = refl
+none_if (Some y) not = absurd (not y refl)
