@@ -20,7 +20,7 @@ horizon_of (Entries sender horizon entries) = refl
 horizon_of (Digest sender horizon digests) = refl
 horizon_of (Want sender horizon request) = refl
 
-raised_id : (old mid : List NodeState) (time : ℕ) → AreGiven (at_horizon time) old mid
+pub raised_id : (old mid : List NodeState) (time : ℕ) → AreGiven (at_horizon time) old mid
     → (shard_at mid 0).id ≡ (shard_at old 0).id
 raised_id old mid time raised = ap (λ (v : NodeView). v.id) (raised.given empty_node.pool)
 
