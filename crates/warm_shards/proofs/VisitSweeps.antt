@@ -174,7 +174,7 @@ pub record Gave (S : ReferenceSet) (old : List NodeState) (made : Made) (after :
   pub makes : t.visit.made ≡ made
   pub ends : t.visit.after ≡ after
 
-empty_or_not : {A : Type 0} (xs : List A) → (xs ≡ []) ⊎ (xs ≢ [])
+pub empty_or_not : {A : Type 0} (xs : List A) → (xs ≡ []) ⊎ (xs ≢ [])
 empty_or_not [] = inl refl
 empty_or_not (x ∷ xs) = inr (λ none. absurd (cc))
 
@@ -245,7 +245,7 @@ gives_on (suc n) k id old S made after s t es is are le quiet have at runs over 
 
 -- ---- whole visits
 
-give_all : (count : ℕ) (S : ReferenceSet)
+pub give_all : (count : ℕ) (S : ReferenceSet)
     → give_plan count S ≡ give_from count (λ i. of_shard count i S) 0
 give_all count S =
     let none : count ≡ count - 0 = omega arith in
