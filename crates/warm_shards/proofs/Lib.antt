@@ -39,3 +39,5 @@ pub mod VisitEntries
 pub mod VisitLemmas
 pub mod VisitSweeps
 pub mod VisitReadsTasks
+pub mod VisitGiven
+pub mod VisitLawsHold

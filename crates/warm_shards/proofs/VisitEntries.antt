@@ -1,9 +1,7 @@
 -- What a visit becomes as it enters a node.
-use Rattle.std.proofs.Common.{◌≡◌, ◌≢◌, inl, inr, ℕ, ◌+◌, ◌<◌, ◌≤◌, Bool, true, false, List, [], ◌∷◌, ◌++◌, length, refl, sym, ap, subst, ◌∙◌, arith}
+use Rattle.std.proofs.Common.{◌≡◌, ◌≢◌, inl, inr, ℕ, ◌+◌, ◌<◌, ◌≤◌, Bool, true, false, List, [], ◌∷◌, ◌++◌, refl, sym, ap, subst, ◌∙◌, arith}
 use Rattle.std.specs.Prelude.{None, Option, Some}
 use Rattle.std.proofs.lemmas.Bool.{cases_eq}
-use Rattle.warm_stamps.specs.declared.PageId.{PageId}
-use Rattle.warm_history.specs.ReferenceSets.{ReferenceSet}
 use Rattle.warm_pool.specs.Unchanged.{KeepsBytes}
 use Rattle.warm_gossip.specs.declared.call.Call.TheVariants as call
 use Rattle.warm_gossip.specs.declared.call.Reply.TheVariants as reply
@@ -13,8 +11,8 @@ use Rattle.warm_shards.specs.Given.{IsGiven, IsSame, at_horizon}
 use Rattle.warm_shards.specs.declared.giving.Parts.{Parts}
 use Rattle.warm_shards.specs.declared.visit.Work.{Work}
 use Rattle.warm_shards.specs.declared.visit.Work.TheVariants.{Give, Raise}
-use Rattle.warm_shards.specs.VisitParts.{IsFirstPart, IsVisit, earlier, give_from, made_of, part_at, parts_count, raise_from, visit_of, work_from}
-use Rattle.warm_shards.specs.Visits.{After, Ask, Enters, Errand, HasEntered, Said, Takes, VisitState, at_shard, copying, ends, entries_for, entries_for_all, entries_left, entries_unless, given, giving, keeps, next_shard, offering, onward, refused, sending, shard_next}
+use Rattle.warm_shards.specs.VisitParts.{IsFirstPart, IsVisit, earlier, give_from, made_of, part_at, raise_from, visit_of, work_from}
+use Rattle.warm_shards.specs.Visits.{After, Ask, Errand, HasEntered, VisitState, at_shard, copying, ends, entries_for, entries_left, entries_unless, given, giving, keeps, next_shard, offering, onward, refused, sending, shard_next}
 use Rattle.warm_shards.proofs.VisitPlans.{give_end, give_here, give_skip, raise_end, raise_here}
 
 -- ---- the next shard

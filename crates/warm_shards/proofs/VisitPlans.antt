@@ -1,8 +1,7 @@
 -- The errands of a visit, from one shard on.
-use Rattle.std.proofs.Common.{◌≡◌, ◌≢◌, inl, inr, ℕ, zero, suc, ◌+◌, ◌-◌, ◌<◌, ◌≤◌, Bool, true, false, List, [], ◌∷◌, ◌++◌, length, map, get_or, refl, sym, ap, subst, ◌∙◌, arith}
+use Rattle.std.proofs.Common.{◌≡◌, ◌≢◌, inl, inr, ℕ, zero, suc, ◌+◌, ◌-◌, ◌<◌, ◌≤◌, false, List, [], ◌∷◌, ◌++◌, length, map, get_or, refl, sym, ap, ◌∙◌, arith}
 use Rattle.std.proofs.lemmas.Bool.{cases_eq}
-use Rattle.std.proofs.lemmas.List.{append-nil}
-use Rattle.std.specs.Prelude.{None, Option, Some}
+use Rattle.std.specs.Prelude.{None}
 use Rattle.std.specs.Global.{Vec}
 use Rattle.std.specs.List.{flat_map, range_with_len}
 use Rattle.warm_stamps.specs.declared.PageId.{PageId}
@@ -11,14 +10,13 @@ use Rattle.warm_history.specs.declared.hist.Entry.{Entry}
 use Rattle.warm_history.specs.ReferenceSets.{ReferenceSet, set_of_list}
 use Rattle.warm_history.specs.Histories.{history_of_entries_at, references_of}
 use Rattle.warm_shards.specs.Given.{at_horizon}
-use Rattle.warm_shards.specs.Parts.{AreShardParts, own_items, part_of_batch, part_of_entries}
+use Rattle.warm_shards.specs.Parts.{AreShardParts, own_items}
 use Rattle.warm_shards.specs.Shards.{of_shard}
 use Rattle.warm_shards.specs.declared.giving.Parts.{Parts}
 use Rattle.warm_shards.specs.declared.giving.Parts.TheVariants.{Batch, Entries}
-use Rattle.warm_shards.specs.declared.visit.Work.{Work}
-use Rattle.warm_shards.specs.declared.visit.Work.TheVariants.{Give, Raise}
-use Rattle.warm_shards.specs.VisitParts.{IsFirstPart, IsFirstSome, IsVisit, give_from, nth_list, part_at, parts_count, raise_from, shards_from, visit_of, work_from}
-use Rattle.warm_shards.specs.Visits.{Errand, VisitState, absorb_visit, at_shard, begun, ends, give_part, give_plan, give_visit, giving, nothing, part_errand, shard_next, raise_plan}
+use Rattle.warm_shards.specs.declared.visit.Work.TheVariants.{Give}
+use Rattle.warm_shards.specs.VisitParts.{IsFirstPart, IsFirstSome, give_from, nth_list, part_at, parts_count, raise_from, shards_from, visit_of}
+use Rattle.warm_shards.specs.Visits.{Errand, absorb_visit, at_shard, begun, ends, give_part, give_plan, give_visit, giving, nothing, part_errand, raise_plan}
 use Rattle.warm_shards.proofs.PartEntries.{batch_refs, held_none, held_some, part_refs}
 
 -- ---- from one shard on

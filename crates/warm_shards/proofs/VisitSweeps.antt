@@ -1,5 +1,5 @@
 -- A visit that nobody interrupts: all shards are raised, and then each is given its part.
-use Rattle.std.proofs.Common.{◌≡◌, ◌≢◌, ◌⊎◌, inl, inr, ℕ, zero, suc, ◌+◌, ◌-◌, ◌<◌, ◌≤◌, Bool, true, false, List, [], ◌∷◌, ◌++◌, length, max, min, set, Result, Ok, Err, refl, sym, ap, subst, ◌∙◌, arith}
+use Rattle.std.proofs.Common.{◌≡◌, ◌≢◌, ◌⊎◌, inl, inr, ℕ, zero, suc, ◌+◌, ◌-◌, ◌<◌, Bool, true, false, List, [], ◌∷◌, ◌++◌, length, max, min, set, refl, sym, ap, subst, ◌∙◌, arith}
 use Rattle.std.specs.Prelude.{None, Some}
 use Rattle.std.proofs.lemmas.List.{append-nil, get_or-set_same}
 use Rattle.std.specs.List.{flat_map, range_with_len}
@@ -9,14 +9,13 @@ use Rattle.warm_history.specs.Histories.{HistoryView, references_of}
 use Rattle.warm_history.proofs.HistoryLemmas.{horizon-history}
 use Rattle.warm_machine.specs.declared.operation.Operation.{Operation}
 use Rattle.warm_machine.specs.Runs.{Runs}
-use Rattle.warm_gossip.specs.declared.fault.NodeFault.{NodeFault}
 use Rattle.warm_gossip.specs.declared.fault.NodeFault.TheVariants.{Memory}
 use Rattle.warm_gossip.specs.State.{NodeState, NodeView}
 use Rattle.warm_shards.specs.Given.{AreGiven, Gives, IsGiven, IsSame, at_horizon}
 use Rattle.warm_shards.specs.Shards.{AreShards, no_shard, of_shard, shard_at, whole}
 use Rattle.warm_shards.specs.VisitLaws.{Alone, EntersAlone, GoesAlone, alone}
 use Rattle.warm_shards.specs.VisitParts.{give_from, raise_from}
-use Rattle.warm_shards.specs.Visits.{After, Ask, Enters, Errand, Made, NodeSays, Said, Takes, VisitState, absorb_visit, at_shard, begun, copied, ends, give_part, give_plan, give_visit, given, giving, keeps, kept_of, next_shard, nothing, offered, onward, raise_plan, raise_visit, raised, refused, result_of, sent, shard_next}
+use Rattle.warm_shards.specs.Visits.{After, Errand, Made, NodeSays, Said, Takes, VisitState, absorb_visit, at_shard, begun, copied, ends, give_part, give_plan, give_visit, given, giving, keeps, kept_of, next_shard, nothing, offered, onward, raise_plan, raise_visit, raised, refused, result_of, sent, shard_next}
 use Rattle.warm_shards.proofs.AreShardsLemmas.{some_shards}
 use Rattle.warm_shards.proofs.Buckets.{shard_horizon}
 use Rattle.warm_shards.proofs.GivenLemmas.{GivenFirst, IsNoLater, given_all, given_more, given_past, given_stays, gives_all, gives_first, none_given, raised_gives, raised_late, whole_given}
@@ -175,7 +174,7 @@ pub record Gave (S : ReferenceSet) (old : List NodeState) (made : Made) (after :
   pub makes : t.visit.made ≡ made
   pub ends : t.visit.after ≡ after
 
-empty_or_not : {A : Type 0} (xs : List A) → (xs ≡ []) ⊎ (xs ≢ [])
+pub empty_or_not : {A : Type 0} (xs : List A) → (xs ≡ []) ⊎ (xs ≢ [])
 empty_or_not [] = inl refl
 empty_or_not (x ∷ xs) = inr (λ none. absurd (cc))
 
@@ -246,7 +245,7 @@ gives_on (suc n) k id old S made after s t es is are le quiet have at runs over 
 
 -- ---- whole visits
 
-give_all : (count : ℕ) (S : ReferenceSet)
+pub give_all : (count : ℕ) (S : ReferenceSet)
     → give_plan count S ≡ give_from count (λ i. of_shard count i S) 0
 give_all count S =
     let none : count ≡ count - 0 = omega arith in

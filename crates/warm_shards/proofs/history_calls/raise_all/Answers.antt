@@ -1,8 +1,6 @@
-use Rattle.std.proofs.Common.{◌≡◌, Result, Ok, Err, Some, None, ℕ, sym, ap, subst, ◌∙◌, arith}
-use Rattle.std.specs.Prelude.{Option}
-use Rattle.warm_gossip.specs.declared.fault.NodeFault.{NodeFault}
+use Rattle.std.proofs.Common.{◌≡◌, Ok, Err, Some, None, sym, ap, subst, ◌∙◌, arith}
 use Rattle.warm_shards.specs.VisitLaws.{GoesAlone}
-use Rattle.warm_shards.specs.Visits.{VisitState, kept_of, result_of}
+use Rattle.warm_shards.specs.Visits.{VisitState, result_of}
 use Rattle.warm_shards.specs.Shards.{whole}
 use Rattle.warm_shards.proofs.VisitSweeps.{alone_raises}
 use Rattle.warm_shards.proofs.history_calls.raise_all.Goals as goal

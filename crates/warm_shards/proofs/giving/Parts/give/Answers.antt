@@ -1,10 +1,10 @@
-use Rattle.std.proofs.Common.{◌≡◌, ◌<◌, List, length, sym, ap, subst, ◌∙◌, arith}
+use Rattle.std.proofs.Common.{◌<◌, List, length, sym, ap, subst, ◌∙◌, arith}
 use Rattle.warm_stamps.specs.declared.Reference.{Reference}
 use Rattle.warm_history.specs.declared.hist.Entry.{Entry}
 use Rattle.warm_history.specs.ReferenceSets.{set_of_list}
 use Rattle.warm_history.specs.Histories.{history_of_entries_at, references_of}
 use Rattle.warm_shards.specs.Given.{GivesOne}
-use Rattle.warm_shards.specs.VisitParts.{nth_list, part_at, parts_count}
+use Rattle.warm_shards.specs.VisitParts.{part_at, parts_count}
 use Rattle.warm_shards.specs.declared.giving.Parts.{Parts}
 use Rattle.warm_shards.proofs.GivenLemmas.{absorbs, joins}
 use Rattle.warm_shards.proofs.VisitPlans.{nth_read}

@@ -1,8 +1,7 @@
-use Rattle.std.proofs.Common.{◌≡◌, ◌≢◌, ◌≤◌, ◌<◌, ◌+◌, ℕ, None, Some, false, sym, ap, subst, arith}
+use Rattle.std.proofs.Common.{◌≢◌, ◌≤◌, ◌<◌, ◌+◌, ℕ, None, Some, sym, subst, arith}
 use Rattle.warm_gossip.specs.State.{NodeState}
 use Rattle.warm_shards.specs.declared.visit.Work.{Work}
-use Rattle.warm_shards.specs.declared.visit.Work.TheVariants.{Give}
-use Rattle.warm_shards.specs.VisitParts.{IsVisit, earlier, visit_of}
+use Rattle.warm_shards.specs.VisitParts.{IsVisit, visit_of}
 use Rattle.warm_shards.specs.Visits.{HasEntered, VisitState, entries_left, next_shard}
 use Rattle.warm_shards.proofs.VisitEntries.{enters_given, enters_raised, is_going, is_there}
 use Rattle.warm_shards.proofs.visit.Visit.enter.Goals as goal

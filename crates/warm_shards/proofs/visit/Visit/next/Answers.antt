@@ -1,9 +1,6 @@
-use Rattle.std.proofs.Common.{◌≡◌, ◌≤◌, false, sym, ap, ◌∙◌, arith}
-use Rattle.std.proofs.lemmas.Bool.{ltb-false}
+use Rattle.std.proofs.Common.{sym, ap, ◌∙◌, arith}
 use Rattle.warm_shards.specs.Visits.{next_shard}
-use Rattle.warm_shards.proofs.VisitEntries.{next_given, next_none, next_raised, stopped_none}
-use Rattle.warm_shards.proofs.VisitExamples.{absorbs_parts}
-use Rattle.warm_shards.proofs.VisitSweeps.{raises_first}
+use Rattle.warm_shards.proofs.VisitEntries.{next_given}
 use Rattle.warm_shards.proofs.visit.Visit.next.Goals as goal
 
 pub returns-then-self-3-clause-value : goal.returns-then-self-3-clause-value
