@@ -94,14 +94,17 @@ has_sent : (id count bucket : ℕ) (s t : Sending) (n : NodeState) (message : Me
     → HasEntered (sending_visit id count s) n (sending_visit id count t) n
 has_sent id count bucket s t n message more at want is follow made plan =
     let i = bucket % count in
-    let rest = later_errands count s.later in
-    (at_shard i (sending bucket s.after), sent message more, record {
-      ready = refl;
-      rest = rest;
-      next = ap (λ b. send_from count b s.later s.after) at;
-      says = (is, follow, (refl, bytes_same n.pool));
-      takes = λ j. begun id count (plan j) (made j) (asks_for id (want j));
-    })
+    let rest = later_errands count s.later in (
+      at_shard i (sending bucket s.after),
+      sent message more,
+      record {
+        ready = refl;
+        rest = rest;
+        next = ap (λ b. send_from count b s.later s.after) at;
+        says = (is, follow, (refl, bytes_same n.pool));
+        takes = λ j. begun id count (plan j) (made j) (asks_for id (want j));
+      },
+    )
 
 shorter_plan : (a b : ℕ) (es fs rest : List Errand) (e : Errand) (x : ℕ) → es ≡ e ∷ rest
     → entries_for_all fs ≡ x + entries_for_all rest → x < entries_for e.ask → b ≡ a
@@ -169,14 +172,17 @@ sends_last id count bucket s t n message at want steps none is follow made =
 -- the node had no memory for it
 pub sends_refused : (id count bucket : ℕ) (s : Sending) (n : NodeState) → s.bucket ≡ Some bucket
     → HasEntered (sending_visit id count s) n (record (sending_visit id count s) { stopped = true }) n
-sends_refused id count bucket s n at =
-    (at_shard (bucket % count) (sending bucket s.after), refused, record {
-      ready = refl;
-      rest = later_errands count s.later;
-      next = ap (λ b. send_from count b s.later s.after) at;
-      says = (refl, bytes_same n.pool);
-      takes = refl;
-    })
+sends_refused id count bucket s n at = (
+  at_shard (bucket % count) (sending bucket s.after),
+  refused,
+  record {
+    ready = refl;
+    rest = later_errands count s.later;
+    next = ap (λ b. send_from count b s.later s.after) at;
+    says = (refl, bytes_same n.pool);
+    takes = refl;
+  },
+)
 
 -- ---- a request
 

@@ -30,13 +30,17 @@ copies_one id count c d h n lt at joins on =
     let left : from_shard d.shard count copying ≡ later = ap (λ i. from_shard i count copying) on in
     let rest = ap entries_for_all left in
     record {
-      entered = (at_shard c.shard copying, copied h, record {
-        ready = refl;
-        rest = later;
-        next = here;
-        says = (at, (refl, bytes_same n.pool));
-        takes = λ j. begun id count (left j) (joined (joins j)) ends;
-      });
+      entered = (
+        at_shard c.shard copying,
+        copied h,
+        record {
+          ready = refl;
+          rest = later;
+          next = here;
+          says = (at, (refl, bytes_same n.pool));
+          takes = λ j. begun id count (left j) (joined (joins j)) ends;
+        },
+      );
       shorter = omega (arith, fewer, rest);
       id = refl;
       count = refl;
@@ -46,14 +50,17 @@ copies_one id count c d h n lt at joins on =
 
 pub copies_refused : (id count : ℕ) (c : Copying) (n : NodeState) → c.shard < count
     → HasEntered (copying_visit id count c) n (record (copying_visit id count c) { stopped = true }) n
-copies_refused id count c n lt =
-    (at_shard c.shard copying, refused, record {
-      ready = refl;
-      rest = from_shard (c.shard + 1) count copying;
-      next = errand_here c.shard count copying lt;
-      says = (refl, bytes_same n.pool);
-      takes = refl;
-    })
+copies_refused id count c n lt = (
+  at_shard c.shard copying,
+  refused,
+  record {
+    ready = refl;
+    rest = from_shard (c.shard + 1) count copying;
+    next = errand_here c.shard count copying lt;
+    says = (refl, bytes_same n.pool);
+    takes = refl;
+  },
+)
 
 -- ---- an offer
 
@@ -73,14 +80,17 @@ has_offered : (id count : ℕ) (g h : Gathering) (n m : NodeState) (w : VisitSta
     → Compares (from_shard (g.shard + 1) count offering) (waits_for g.waiting) (gathered_in h)
     (begun id count (from_shard (g.shard + 1) count offering) (gathered_in h) (waits_for g.waiting)) w
     → HasEntered (gathering_visit id count g) n w m
-has_offered id count g h n m w lt (horizon, table, says, gathers, on, waits) compared =
-    (at_shard g.shard offering, offered horizon table, record {
-      ready = refl;
-      rest = from_shard (g.shard + 1) count offering;
-      next = errand_here g.shard count offering lt;
-      says = says;
-      takes = (gathered_in h, gathers, compared);
-    })
+has_offered id count g h n m w lt (horizon, table, says, gathers, on, waits) compared = (
+  at_shard g.shard offering,
+  offered horizon table,
+  record {
+    ready = refl;
+    rest = from_shard (g.shard + 1) count offering;
+    next = errand_here g.shard count offering lt;
+    says = says;
+    takes = (gathered_in h, gathers, compared);
+  },
+)
 
 -- the shards after the next one
 plan_after : (count : ℕ) (g h : Gathering) → h.shard ≡ g.shard + 1
@@ -162,14 +172,17 @@ gathers_last id count g h n m s digests lt added over wait compared =
 pub gathers_refused : (id count : ℕ) (g : Gathering) (n m : NodeState) → g.shard < count
     → NodeSays n offering refused m
     → HasEntered (gathering_visit id count g) n (record (gathering_visit id count g) { stopped = true }) m
-gathers_refused id count g n m lt says =
-    (at_shard g.shard offering, refused, record {
-      ready = refl;
-      rest = from_shard (g.shard + 1) count offering;
-      next = errand_here g.shard count offering lt;
-      says = says;
-      takes = refl;
-    })
+gathers_refused id count g n m lt says = (
+  at_shard g.shard offering,
+  refused,
+  record {
+    ready = refl;
+    rest = from_shard (g.shard + 1) count offering;
+    next = errand_here g.shard count offering lt;
+    says = says;
+    takes = refl;
+  },
+)
 
 pub before_some : (shard count : ℕ) (waiting : Option (List (List ℕ))) → shard < count
     → IsBefore shard count waiting
