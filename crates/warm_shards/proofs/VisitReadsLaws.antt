@@ -16,9 +16,9 @@ use Rattle.warm_shards.specs.VisitLaws.{Alone, EndsAlone, EntersAlone, ReadingIs
 use Rattle.warm_shards.specs.Visits.{After, Errand, Made, Said, VisitState, answered, answers_of, at_each, compares, copy_visit, copying, ends, gathered, joined, next_shard, no_offer, offer_of, offer_visit, offering, receive_visit, send_plan}
 use Rattle.warm_shards.proofs.AnswerLemmas.{offered}
 use Rattle.warm_shards.proofs.AreShardsLemmas.{some_shards}
-use Rattle.warm_shards.proofs.Calls.{keep_then, same_keeps, same_none, same_shards, same_whole}
-use Rattle.warm_shards.proofs.GivenLemmas.{raised_alone}
-use Rattle.warm_shards.proofs.Receiving.{digests_received, raised_id, request_received}
+use Rattle.warm_shards.proofs.Calls.{keep_then, same_ids, same_keeps, same_none, same_shards, same_whole}
+use Rattle.warm_shards.proofs.GivenLemmas.{given_id, raised_alone}
+use Rattle.warm_shards.proofs.Receiving.{digests_received, request_received}
 use Rattle.warm_shards.specs.VisitReads.{from_shard}
 use Rattle.warm_shards.proofs.VisitReads.{all_keep, all_there, visit_at}
 use Rattle.warm_shards.proofs.VisitReadsCopies.{Copies, all_copied, copies_on}
@@ -44,6 +44,7 @@ ends_same well old new w are same done = record {
   stopped = λ stopped. none_taken old new are same;
   pools = same_keeps old new same;
   shards = same_shards old new same (some_shards old are) are;
+  id = same_ids old new same 0;
 }
 
 -- ---- copies
@@ -111,6 +112,7 @@ ends_raised well old mid new w time S are at raised same done = record {
   stopped = λ stopped. raised_alone old mid new time S are at raised (same_whole mid new same);
   pools = keep_then old mid new raised.pools (same_keeps mid new same);
   shards = same_shards mid new same (some_shards mid raised.shards) raised.shards;
+  id = same_ids mid new same 0 ∙ given_id (at_horizon time) old mid raised;
 }
 
 -- a raised visit, as one of the shards as they are then
@@ -119,7 +121,7 @@ after_raise : (old mid : List NodeState) (time : ℕ) (made : Made) (after : Aft
     → visit_at (shard_at old 0).id (length old) (plan (length old)) made after false
     ≡ visit_at (shard_at mid 0).id (length mid) (plan (length mid)) made after false
 after_raise old mid time made after plan raised =
-    let id = raised_id old mid time raised in
+    let id = given_id (at_horizon time) old mid raised in
     let count = raised.pools.count in
     λ i. visit_at (sym id i) (sym count i) (plan (sym count i)) made after false
 

@@ -51,6 +51,7 @@ pub record EndsAlone (well : VisitState → List NodeState → Type 0) (S : Refe
   pub stopped : w.stopped ≡ true → TakesInFirst old S new
   pub pools : KeepPools old new
   pub shards : AreShards new
+  pub id : (shard_at new 0).id ≡ (shard_at old 0).id
 
 -- whenever shards have been visited so, until no errand was left, or one was refused
 abbrev pub Whenever : (ℕ → ℕ → VisitState)

@@ -24,39 +24,44 @@ use warm_history::{Entry, History};
 use warm_peer::SentPortion;
 use warm_stamps::{Bucket, PageId};
 
-// Raises all shards to the message's horizon; takes its entries in, or answers it.
+// Lets a visit into the nodes by which they receive a message, and returns their answer.
+fn visited<D: PageDevice>(
+    alloc: Global,
+    nodes: &mut Vec<Node<D>>,
+    visit: Visit,
+) -> Result<MessageList, NodeFault>
+    requires shards { AreShards nodes.old.items }
+    requires count { length nodes.old.items ≡ visit.count }
+    ensures { (message : Message)
+        → visit ≡ receive_visit (shard_at nodes.old.items 0).id (length nodes.old.items) message
+        → Receives message nodes.old.items result nodes.new.items }
+{
+    let mut visit = visit;
+    go_through(nodes, &mut visit)?;
+    let answers = visit.into_answers(alloc)?;
+    Ok(answers)
+}
+
+/// Takes the entries of a message in, or answers it. Entries that are of pages of one shard are not
+/// copied.
 fn received<D: PageDevice>(
     alloc: Global,
     nodes: &mut Vec<Node<D>>,
     message: Message,
 ) -> Result<MessageList, NodeFault>
     requires { AreShards nodes.old.items }
-    ensures shards { AreShards nodes.new.items }
-    ensures received { IfOk result (λ answers. Together nodes.old.items (Receive message)
-        (Answers answers) nodes.new.items) }
-    ensures refused { IfErr result (λ why. (why ≡ Memory)
-        × TakesInFirst nodes.old.items (refs_in message) nodes.new.items) }
-    ensures pools { KeepPools nodes.old.items nodes.new.items }
+    ensures { Receives message nodes.old.items result nodes.new.items }
 {
-    raise_all(nodes, message.horizon());
-    match message {
-        Message::Entries {
-            horizon,
-            entries,
-            ..
-        } => {
-            join_parts(alloc, nodes, horizon, entries.as_slice())?;
-            Ok(MessageList::of(Vec::new(alloc)))
-        }
-        Message::Digest { digests, .. } => {
-            let messages = answer_to_digests(alloc, nodes, &digests)?;
-            Ok(MessageList::of(messages))
-        }
-        Message::Want { request, .. } => {
-            let messages = requested(alloc, nodes, request)?;
-            Ok(MessageList::of(messages))
-        }
+    if let Message::Entries {
+        horizon, entries, ..
+    } = &message
+    {
+        raise_all(nodes, *horizon);
+        join_parts(alloc, nodes, *horizon, entries.as_slice())?;
+        return Ok(MessageList::of(Vec::new(alloc)));
     }
+    let visit = Visit::receive(alloc, nodes[0].id(), nodes.len(), &message)?;
+    visited(alloc, nodes, visit)
 }
 
 // Raises all shards to the horizon of another history, and takes its entries in.
@@ -117,12 +122,12 @@ impl<D: PageDevice> Shards<D> {
         ensures step { TogetherAnswered self.old Offer Sent result self.new }
         ensures pools { KeepPools self.old self.new }
     {
-        let digests = gathered(&mut self.nodes)?;
-        Ok(Message::Digest {
-            sender: self.nodes[0].id(),
-            horizon: self.nodes[0].history().horizon(),
-            digests,
-        })
+        let mut visit = Visit::offer(self.alloc, self.nodes[0].id(), self.nodes.len());
+        go_through(&mut self.nodes, &mut visit)?;
+        let Some(offer) = visit.offered() else {
+            unreachable!()
+        };
+        Ok(offer)
     }
 
     /// The messages with which all shards together would answer this one, as

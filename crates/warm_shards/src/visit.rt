@@ -12,6 +12,7 @@ ghost use Rattle.warm_shards.specs.Visits.{result_of};
 
 use crate::batch_parts::parts_of;
 use crate::giving::Parts;
+use crate::reading::Reading;
 use std::alloc::{AllocError, Global};
 use std::marker::Model;
 use warm_devices::PageDevice;
@@ -44,6 +45,8 @@ pub(crate) enum Work {
     Raise,
     // Each shard is given its part.
     Give(Parts),
+    // It is read.
+    Read(Reading),
 }
 
 impl Model for Visit {
@@ -54,7 +57,7 @@ impl Model for Visit {
 
     ghost view = { λ v. visit_of v.id v.count v.time v.rising v.shard v.work v.kept v.stopped };
 
-    ghost invariant = { λ v. IsVisit v.count v.rising v.shard v.work };
+    ghost invariant = { λ v. IsVisit v.id v.count v.rising v.shard v.work };
 }
 
 // The earlier one of two horizons.
@@ -179,6 +182,11 @@ impl Visit {
         if self.rising < self.count {
             return Some(self.rising);
         }
+        match &self.work {
+            Work::Raise => return None,
+            Work::Read(reading) => return reading.next(),
+            Work::Give(_) => {}
+        }
         if self.shard < self.count {
             return Some(self.shard);
         }
@@ -204,7 +212,7 @@ impl Visit {
     {
         match self.work {
             Work::Raise => self.kept,
-            Work::Give(_) => None,
+            _ => None,
         }
     }
 
@@ -222,7 +230,7 @@ impl Visit {
             self.rising += 1;
             return;
         }
-        match &self.work {
+        match &mut self.work {
             Work::Raise => {}
             Work::Give(parts) => {
                 if let Err(_why) = parts.give(self.shard, node) {
@@ -230,6 +238,11 @@ impl Visit {
                     return;
                 }
                 self.shard = parts.first(self.shard + 1);
+            }
+            Work::Read(reading) => {
+                if let Err(_why) = reading.enter(node) {
+                    self.stopped = true;
+                }
             }
         }
     }
