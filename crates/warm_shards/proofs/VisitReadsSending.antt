@@ -1,7 +1,8 @@
 -- One portion: what becomes of the visit, and that fewer entries are left.
-use Rattle.std.proofs.Common.{◌≡◌, ℕ, suc, ◌+◌, ◌*◌, ◌-◌, ◌^◌, ◌%◌, ◌<◌, Bool, true, false, List, [], ◌∷◌, ◌++◌, length, map, get_or, Option, Some, None, MatchOption, refl, sym, ap, subst, ◌∙◌, arith}
+use Rattle.std.proofs.Common.{◌≡◌, ℕ, zero, suc, ◌+◌, ◌*◌, ◌-◌, ◌^◌, ◌%◌, ◌<◌, ◌≤◌, Bool, true, false, List, [], ◌∷◌, ◌++◌, length, filter, map, get_or, Option, Some, None, MatchOption, refl, sym, ap, subst, ◌∙◌, arith}
 use Rattle.std.specs.Prelude.{◌==◌, ◌↔◌, IsTrue, slice_get}
-use Rattle.std.specs.List.{All}
+use Rattle.std.specs.Int.{bit_at}
+use Rattle.std.specs.List.{All, range_with_len}
 use Rattle.std.specs.Ordering.{is_lt, nat_cmp, ordering_then}
 use Rattle.std.specs.declared.cmp.Ordering.{Ordering}
 use Rattle.std.specs.declared.cmp.Ordering.TheVariants.{Equal, Greater, Less}
@@ -10,7 +11,8 @@ use Rattle.std.proofs.lemmas.Cmp.{ranked}
 use Rattle.std.proofs.lemmas.List.Elements.{All-filter, filter_passes}
 use Rattle.std.proofs.lemmas.Option.{get_or_from_slice_get, slice_get_within}
 use Rattle.warm_stamps.specs.declared.PageId.{PageId}
-use Rattle.warm_stamps.specs.Buckets.{page_bucket}
+use Rattle.warm_stamps.specs.Buckets.{buckets_in, page_bucket}
+use Rattle.warm_stamps.specs.declared.TheConstants.{BUCKETS}
 use Rattle.warm_stamps.specs.Stamps.{page_cmp}
 use Rattle.warm_history.specs.declared.hist.Entry.{Entry}
 use Rattle.warm_history.specs.Carried.{comes_after, is_next_in_bucket, later_of_bucket}
@@ -18,12 +20,13 @@ use Rattle.warm_history.specs.Histories.{HistoryView, IsHistory, entries_of}
 use Rattle.warm_history.specs.KeptEntries.{is_recent}
 use Rattle.warm_frames.specs.Limits.{entries_in}
 use Rattle.warm_frames.specs.declared.message.Message.{Message}
+use Rattle.warm_peer.specs.Answers.{requested_buckets}
 use Rattle.warm_peer.specs.Chunks.{last_page}
 use Rattle.warm_peer.specs.Since.{HasMoreSince, sent_since}
 use Rattle.warm_gossip.specs.State.{NodeState}
 use Rattle.warm_shards.specs.declared.sending.Sending.{Sending}
 use Rattle.warm_shards.specs.VisitReads.{HasRead, IsPage, asks_for, send_from, sending_visit}
-use Rattle.warm_shards.specs.Visits.{Errand, HasEntered, answered, at_shard, begun, entries_after, entries_for, entries_for_all, goes_on, pages_after, refused, sending, sent, with_message}
+use Rattle.warm_shards.specs.Visits.{After, Errand, HasEntered, answered, at_shard, begun, entries_after, entries_for, entries_for_all, goes_on, pages_after, refused, send_plan, sending, sent, with_message}
 use Rattle.warm_shards.proofs.Calls.{bytes_same}
 use Rattle.warm_shards.proofs.VisitReadsPortions.{last_of_first, left_of_bucket, portion_is}
 
@@ -174,3 +177,42 @@ sends_refused id count bucket s n at =
       says = (refl, bytes_same n.pool);
       takes = refl;
     })
+
+-- ---- a request
+
+-- the buckets of a request are sent from the first one on
+pub sends_of : (id count request : ℕ) (bucket : Option ℕ) (bs later : List ℕ)
+    (messages : List Message) (after : After) → bs ≡ buckets_in request
+    → MatchOption bucket ((bs ≡ []) × (later ≡ [])) (λ b. bs ≡ b ∷ later) → messages ≡ []
+    → begun id count (send_from count bucket later None) (answered messages) after
+    ≡ begun id count (send_plan count request) (answered []) after
+unfolding requested_buckets
+sends_of id count request bucket bs later messages after is steps none =
+    let plan : send_from count bucket later None ≡ send_plan count request = next_bucket count bucket bs later steps ∙ ap (later_errands count) is in
+    λ j. begun id count (plan j) (answered (none j)) after
+
+-- one errand for each bucket
+each_bucket : (count : ℕ) (bs : List ℕ)
+    → entries_for_all (later_errands count bs) ≡ length bs * entries_for (sending 0 None)
+each_bucket count [] = refl
+each_bucket count (b ∷ bs) = let rest = each_bucket count bs in omega (arith, rest)
+
+few_buckets : (set first n : ℕ)
+    → length (filter (λ b. bit_at set b == 1) (range_with_len first n)) ≤ n
+few_buckets set first zero = omega arith
+few_buckets set first (suc n) = cases (bit_at set first == 1) refl (few_buckets set (first + 1) n)
+  where
+    cases : (t : Bool) → (bit_at set first == 1) ≡ t
+        → length (filter (λ b. bit_at set b == 1) (range_with_len (first + 1) n)) ≤ n
+        → length (filter (λ b. bit_at set b == 1) (range_with_len first (suc n))) ≤ suc n
+    cases true is le = rw is (omega (arith, le))
+    cases false is le = rw is (omega (arith, le))
+
+-- a request takes no more entries than there may be after a comparison
+pub few_entries : (count request : ℕ)
+    → entries_for_all (send_plan count request) ≤ BUCKETS * entries_for (sending 0 None)
+unfolding requested_buckets
+few_entries count request =
+    let few = few_buckets request 0 BUCKETS in
+    let all = each_bucket count (buckets_in request) in
+    omega (arith, few, all)

@@ -122,3 +122,15 @@ IsTask count (Copy c) = c.shard ≤ count
 pub record IsReading (count : ℕ) (task : Task) : Type 0 where
   pub some : 0 < count
   pub place : IsTask count task
+
+-- The next shard has offered, and nothing is compared yet; or it was the last one, and the buckets
+-- that differ are sent next; or it refused, and nothing has changed.
+abbrev pub GathersOne : ℕ → ℕ → Gathering → NodeState → Result (Option Sending) NodeFault → Gathering
+    → NodeState → Type 0
+GathersOne id count g old (Ok None) h new =
+    HasRead (gathering_visit id count g) old (gathering_visit id count h) new
+    × IsBefore h.shard count h.waiting
+GathersOne id count g old (Ok (Some s)) h new =
+    HasRead (gathering_visit id count g) old (sending_visit id count s) new × IsPage s.after
+GathersOne id count g old (Err why) h new = (h ≡ g) × (why ≡ Memory)
+    × HasEntered (gathering_visit id count g) old (record (gathering_visit id count g) { stopped = true }) new

@@ -1,11 +1,12 @@
 //! The entries of buckets, sent in portions: each is a message.
-ghost use Rattle.std.specs.Prelude.{◌≡◌, ◌↔◌, ℕ, IsTrue, OnErr, OnOk, Some};
+ghost use Rattle.std.specs.Prelude.{◌≡◌, ◌↔◌, ℕ, [], IsTrue, OnErr, OnOk, Some};
 ghost use Rattle.warm_frames.specs.Limits.{entries_in};
 ghost use Rattle.warm_peer.specs.Chunks.{last_page};
-ghost use Rattle.warm_shards.specs.VisitReads.{HasNoEntries, IsPage, ReadsOne, sending_visit};
-ghost use Rattle.warm_shards.specs.Visits.{answered, with_message};
+ghost use Rattle.warm_shards.specs.VisitReads.{HasNoEntries, IsPage, ReadsOne, asks_for};
+ghost use Rattle.warm_shards.specs.VisitReads.{sending_visit};
+ghost use Rattle.warm_shards.specs.Visits.{answered, begun, send_plan, with_message};
 
-use std::alloc::AllocError;
+use std::alloc::{AllocError, Global};
 use warm_devices::PageDevice;
 use warm_frames::Message;
 use warm_gossip::{Node, NodeFault};
@@ -71,6 +72,23 @@ fn add_message(messages: &mut Vec<Message>, message: Message) -> Result<(), Allo
 }
 
 impl Sending {
+    /// Sends the buckets of a request, from the first one on. Allocation-free.
+    pub(crate) fn of(alloc: Global, request: BucketSet, want: Option<Wanted>) -> Sending
+        ensures sends { (id count : ℕ) → sending_visit id count result
+            ≡ begun id count (send_plan count request) (answered []) (asks_for id want) }
+        ensures page { IsPage result.after }
+    {
+        let mut later = request.iter();
+        let bucket = later.next();
+        Sending {
+            bucket,
+            later,
+            after: None,
+            messages: Vec::new(alloc),
+            want,
+        }
+    }
+
     /// Sends the next portion, of the node of its shard.
     ///
     /// `Memory` occurs only if an allocation fails.
