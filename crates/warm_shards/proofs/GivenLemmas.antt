@@ -37,7 +37,7 @@ pub record EachIsGiven (S : ReferenceSet) (old new : List NodeState) : Type 0 wh
   pub count : length new ≡ length old
   pub each : (i : ℕ) → i < length old → IsGiven (of_shard (length old) i S) (shard_at old i) (shard_at new i)
 
-beyond : (ns : List NodeState) (i : ℕ) → length ns ≤ i → shard_at ns i ≡ no_shard
+pub beyond : (ns : List NodeState) (i : ℕ) → length ns ≤ i → shard_at ns i ≡ no_shard
 beyond [] i le = refl
 beyond (n ∷ ns) zero le = absurd (omega arith)
 beyond (n ∷ ns) (suc i) le = beyond ns i (omega arith)

@@ -1,9 +1,10 @@
 -- A visit that reads, and that nobody interrupts, is the call of the one node.
 use Rattle.std.proofs.Common.{◌≡◌, inl, inr, ℕ, ◌+◌, false, List, [], length, refl, sym, ap, subst, ◌∙◌, arith}
-use Rattle.std.specs.Prelude.{None}
+use Rattle.std.specs.Prelude.{None, Some}
 use Rattle.warm_history.specs.ReferenceSets.{ReferenceSet, set_of_list}
 use Rattle.warm_history.proofs.HistoryLemmas.{IsHistory-history}
 use Rattle.warm_history.proofs.JoinLemmas.{raised_to_no_later}
+use Rattle.warm_frames.specs.declared.message.Message.{Message}
 use Rattle.warm_frames.specs.declared.message.Message.TheVariants.{Digest, Want}
 use Rattle.warm_peer.specs.Answers.{refs_in, requested_messages}
 use Rattle.warm_gossip.specs.State.{NodeState}
@@ -13,7 +14,7 @@ use Rattle.warm_shards.specs.Clauses.{SameShards, TakesInFirst, Together}
 use Rattle.warm_shards.specs.Given.{AreGiven, at_horizon}
 use Rattle.warm_shards.specs.Shards.{AreShards, held, shard_at, whole}
 use Rattle.warm_shards.specs.VisitLaws.{Alone, EndsAlone, EntersAlone, ReadingIsOneNode, ReceivesAlone, Whenever, alone}
-use Rattle.warm_shards.specs.Visits.{After, Errand, Made, Said, VisitState, answered, answers_of, at_each, compares, copy_visit, copying, ends, gathered, joined, next_shard, no_offer, offer_of, offer_visit, offering, receive_visit, send_plan}
+use Rattle.warm_shards.specs.Visits.{After, Errand, Made, Said, VisitState, answered, answers_of, at_each, compares, copy_of, copy_visit, copying, ends, gathered, joined, next_shard, no_offer, offer_of, offer_visit, offering, receive_visit, send_plan}
 use Rattle.warm_shards.proofs.AnswerLemmas.{offered}
 use Rattle.warm_shards.proofs.AreShardsLemmas.{some_shards}
 use Rattle.warm_shards.proofs.Calls.{keep_then, same_ids, same_keeps, same_none, same_shards, same_whole}
@@ -49,7 +50,7 @@ ends_same well old new w are same done = record {
 
 -- ---- copies
 
-pub copies : Whenever copy_visit (λ old. EndsAlone (λ w new. w.made ≡ joined (whole old))
+pub copies : Whenever copy_visit (λ old. EndsAlone (λ w new. copy_of w.made ≡ Some (whole old))
     (set_of_list []) old)
 copies old new w are (entries, runs) over =
     let id = (shard_at old 0).id in
@@ -62,7 +63,7 @@ copies old new w are (entries, runs) over =
       visit = λ i. visit_at id count (from_first count copying i) (joined (none_joined i)) ends false;
     } in
     let last : Copies old (alone w new) = all_keep EntersAlone (Copies old) (λ s y e said. copies_on old s y e said) (alone (copy_visit id count) old) (alone w new) entries first runs in
-    ends_same (λ u ns. u.made ≡ joined (whole old)) old new w are last.same (λ going. all_copied old (alone w new) last over going)
+    ends_same (λ u ns. copy_of u.made ≡ Some (whole old)) old new w are last.same (λ going. ap copy_of (all_copied old (alone w new) last over going))
 
 -- ---- offers
 
@@ -70,7 +71,8 @@ Offering : List NodeState → Alone → Type 0
 Offering old s = (k : ℕ) × Offers old ends k s
 
 abbrev pub AnOffer : List NodeState → VisitState → List NodeState → Type 0
-AnOffer old w new = Together old Offer (Sent (offer_of w.id w.made)) new
+AnOffer old w new = (offer : Message) × (offer_of w.id w.made ≡ Some offer)
+    × Together old Offer (Sent offer) new
 
 offers_on : (old : List NodeState) → AreShards old → (s y : Alone) (e : Errand) (said : Said)
     → Offering old s → EntersAlone s e said y → Offering old y
@@ -89,7 +91,7 @@ offer_made old t k are have over going =
     let all : k ≡ length old = all_there k (length old) offering have.stopped have.within here (ap next_shard (sym have.visit) ∙ over) in
     let is = all_offered old have.latest have.table are (subst (λ n. Offered old n have.latest have.table) all have.offered) in
     subst (λ (x : VisitState). AnOffer old x t.shards) (sym have.visit)
-    (offered old t.shards (shard_at old 0).id have.latest have.table have.same refl is.0 is.1)
+    (Digest (shard_at old 0).id have.latest have.table, refl, offered old t.shards (shard_at old 0).id have.latest have.table have.same refl is.0 is.1)
 
 pub offers : Whenever offer_visit (λ old. EndsAlone (AnOffer old) (set_of_list []) old)
 unfolding Offering

@@ -1,6 +1,6 @@
 //! Exchanging histories: what all shards together offer, send, receive and answer.
 ghost use Rattle.std.specs.Prelude.{◌≡◌, ◌↔◌, IfErr, IfOk, OnOk, IsTrue};
-ghost use Rattle.warm_history.specs.Histories.{entries_of, references_of};
+ghost use Rattle.warm_history.specs.Histories.{references_of};
 ghost use Rattle.warm_peer.specs.Answers.{IsAnswer, refs_in};
 ghost use Rattle.warm_peer.specs.Since.{BringsHeld, HasMoreSince, sent_since};
 ghost use Rattle.warm_gossip.specs.declared.call.Call.TheVariants.{Offer, Receive, Send};
@@ -8,42 +8,25 @@ ghost use Rattle.warm_gossip.specs.declared.call.Reply.TheVariants.{Answers, Sen
 ghost use Rattle.warm_gossip.specs.declared.fault.NodeFault.TheVariants.{Memory};
 ghost use Rattle.warm_shards.specs.Clauses.{JoinsAll, KeepPools, SameShards, TakesInFirst};
 ghost use Rattle.warm_shards.specs.Clauses.{Together, TogetherAnswered};
-ghost use Rattle.warm_shards.specs.Given.{Gives};
+ghost use Rattle.warm_shards.specs.Given.{Gives, Receives};
 ghost use Rattle.warm_shards.specs.Shards.{AreShards, shard_at, whole};
 
-use crate::answers::{answer_to_digests, answered, gathered, requested};
+use crate::answers::{answered, visited};
+use crate::go_through::go_through;
 use crate::history_calls::raise_all;
 use crate::joining::join_parts;
 use crate::shards::Shards;
-use crate::visit::entries_of;
-use std::alloc::{AllocError, Global};
+use crate::visit::{Visit, entries_of};
+use std::alloc::Global;
 use warm_devices::PageDevice;
 use warm_frames::{Message, MessageList};
 use warm_gossip::{Node, NodeFault};
-use warm_history::{Entry, History};
+use warm_history::History;
 use warm_peer::SentPortion;
 use warm_stamps::{Bucket, PageId};
 
-// Lets a visit into the nodes by which they receive a message, and returns their answer.
-fn visited<D: PageDevice>(
-    alloc: Global,
-    nodes: &mut Vec<Node<D>>,
-    visit: Visit,
-) -> Result<MessageList, NodeFault>
-    requires shards { AreShards nodes.old.items }
-    requires count { length nodes.old.items ≡ visit.count }
-    ensures { (message : Message)
-        → visit ≡ receive_visit (shard_at nodes.old.items 0).id (length nodes.old.items) message
-        → Receives message nodes.old.items result nodes.new.items }
-{
-    let mut visit = visit;
-    go_through(nodes, &mut visit)?;
-    let answers = visit.into_answers(alloc)?;
-    Ok(answers)
-}
-
-/// Takes the entries of a message in, or answers it. Entries that are of pages of one shard are not
-/// copied.
+// Takes the entries of a message in, or answers it. Entries that are of pages of one shard are not
+// copied.
 fn received<D: PageDevice>(
     alloc: Global,
     nodes: &mut Vec<Node<D>>,

@@ -170,6 +170,75 @@ impl Visit {
         Visit::entries(alloc, id, count, other.horizon(), &entries)
     }
 
+    // The visit that reads, once all shards are raised from this one on.
+    fn reads(id: ReplicaId, count: usize, time: u64, rising: usize, reading: Reading) -> Visit
+        requires valid { IsShardCount count }
+        requires begins { rising ≤ count }
+        requires reads { IsReader id count reading }
+        ensures { result ≡ visit_of id count time rising count (Read reading) None false }
+    {
+        Visit {
+            id,
+            count,
+            time,
+            rising,
+            shard: count,
+            work: Work::Read(reading),
+            kept: None,
+            stopped: false,
+        }
+    }
+
+    /// The visit in which each shard offers its digests. Allocation-free.
+    pub fn offer(alloc: Global, id: ReplicaId, count: usize) -> Visit
+        requires { IsShardCount count }
+        ensures { result ≡ offer_visit id count }
+    {
+        Visit::reads(id, count, 0, count, Reading::offer(alloc, id, count))
+    }
+
+    /// The visit in which the shards receive a message: each is raised to its horizon, and then
+    /// takes its entries in, sends the buckets that are requested, or offers its digests, which are
+    /// compared. Entries are copied.
+    ///
+    /// `AllocError` occurs only if an allocation fails, and of entries alone.
+    pub fn receive(
+        alloc: Global,
+        id: ReplicaId,
+        count: usize,
+        message: &Message,
+    ) -> Result<Visit, AllocError>
+        requires { IsShardCount count }
+        ensures begun { IfOk result (λ visit. visit ≡ receive_visit id count message.now) }
+        ensures refused { OnErr result (HasEntries message.now) }
+    {
+        match message {
+            Message::Entries {
+                horizon, entries, ..
+            } => Visit::entries(alloc, id, count, *horizon, entries.as_slice()),
+            Message::Digest {
+                horizon, digests, ..
+            } => {
+                let reading = Reading::compare(alloc, id, count, *digests);
+                Ok(Visit::reads(id, count, *horizon, 0, reading))
+            }
+            Message::Want {
+                horizon, request, ..
+            } => {
+                let reading = Reading::send(alloc, id, count, *request);
+                Ok(Visit::reads(id, count, *horizon, 0, reading))
+            }
+        }
+    }
+
+    /// The visit that copies the history of each shard. Allocation-free.
+    pub fn copy(alloc: Global, id: ReplicaId, count: usize) -> Visit
+        requires { IsShardCount count }
+        ensures { result ≡ copy_visit id count }
+    {
+        Visit::reads(id, count, 0, count, Reading::copy(alloc, id, count))
+    }
+
     /// The number of the shard of its next errand; `None` if no errand is left, or a shard has
     /// refused one. Allocation-free.
     pub fn next(&self) -> Option<usize>
@@ -212,6 +281,40 @@ impl Visit {
     {
         match self.work {
             Work::Raise => self.kept,
+            _ => None,
+        }
+    }
+
+    /// The messages that answer, in order, of a visit that has no errand left: none, if it gives.
+    ///
+    /// `AllocError` occurs only if an allocation fails.
+    pub fn into_answers(self, alloc: Global) -> Result<MessageList, AllocError>
+        ensures { IfOk result (λ answers. answers ≡ answers_of self.made self.after) }
+    {
+        let Visit { work, .. } = self;
+        match work {
+            Work::Read(reading) => reading.into_answers(alloc),
+            _ => Ok(MessageList::of(Vec::new(alloc))),
+        }
+    }
+
+    /// What the shards offer, of a visit that offers. Allocation-free.
+    pub fn offered(&self) -> Option<Message>
+        ensures { result ≡ offer_of self.now.id self.now.made }
+    {
+        match &self.work {
+            Work::Read(reading) => reading.offered(),
+            _ => None,
+        }
+    }
+
+    /// The history that was copied, of a visit that copies. Allocation-free.
+    pub fn into_copy(self) -> Option<History>
+        ensures { result ≡ copy_of self.made }
+    {
+        let Visit { work, .. } = self;
+        match work {
+            Work::Read(reading) => reading.into_copy(),
             _ => None,
         }
     }
