@@ -1,7 +1,9 @@
 -- What a visit becomes as it enters a node.
-use Rattle.std.proofs.Common.{◌≡◌, ◌≢◌, inl, inr, ℕ, ◌+◌, ◌<◌, ◌≤◌, Bool, true, false, List, [], ◌∷◌, ◌++◌, refl, sym, ap, subst, ◌∙◌, arith}
+use Rattle.std.proofs.Common.{◌≡◌, ◌≢◌, inl, inr, ℕ, ◌+◌, ◌<◌, ◌≤◌, Bool, true, false, List, [], ◌∷◌, ◌++◌, length, refl, sym, ap, subst, ◌∙◌, arith}
 use Rattle.std.specs.Prelude.{None, Option, Some}
 use Rattle.std.proofs.lemmas.Bool.{cases_eq}
+use Rattle.warm_stamps.specs.declared.PageId.{PageId}
+use Rattle.warm_history.specs.ReferenceSets.{ReferenceSet}
 use Rattle.warm_pool.specs.Unchanged.{KeepsBytes}
 use Rattle.warm_gossip.specs.declared.call.Call.TheVariants as call
 use Rattle.warm_gossip.specs.declared.call.Reply.TheVariants as reply
@@ -10,9 +12,10 @@ use Rattle.warm_gossip.specs.State.{NodeState}
 use Rattle.warm_shards.specs.Given.{IsGiven, IsSame, at_horizon}
 use Rattle.warm_shards.specs.declared.giving.Parts.{Parts}
 use Rattle.warm_shards.specs.declared.visit.Work.{Work}
-use Rattle.warm_shards.specs.declared.visit.Work.TheVariants.{Give, Raise}
-use Rattle.warm_shards.specs.VisitParts.{IsFirstPart, IsVisit, earlier, give_from, made_of, part_at, raise_from, visit_of, work_from}
-use Rattle.warm_shards.specs.Visits.{After, Ask, Errand, HasEntered, VisitState, at_shard, copying, ends, entries_for, entries_left, entries_unless, given, giving, keeps, next_shard, offering, onward, refused, sending, shard_next}
+use Rattle.warm_shards.specs.declared.visit.Work.TheVariants.{Give, Raise, Read}
+use Rattle.warm_shards.specs.VisitParts.{IsFirstPart, IsPlace, IsReader, IsVisit, after_of, earlier, give_from, made_of, part_at, parts_count, raise_from, visit_of, work_from}
+use Rattle.warm_shards.specs.VisitReads.{HasRead, IsRead}
+use Rattle.warm_shards.specs.Visits.{After, Ask, Enters, Errand, HasEntered, Made, Said, Takes, VisitState, answered, at_shard, copying, ends, entries_for, entries_for_all, entries_left, entries_unless, gathered, given, giving, joined, keeps, next_shard, offering, onward, refused, sending, shard_next}
 use Rattle.warm_shards.proofs.VisitPlans.{give_end, give_here, give_skip, raise_end, raise_here}
 
 -- ---- the next shard
@@ -20,10 +23,6 @@ use Rattle.warm_shards.proofs.VisitPlans.{give_end, give_here, give_skip, raise_
 pub stopped_none : (stopped : Bool) (plan : List Errand) → stopped ≡ true
     → shard_next stopped plan ≡ None
 stopped_none stopped plan is = ap (λ b. shard_next b plan) is
-
-empty_none : (stopped : Bool) → shard_next stopped [] ≡ None
-empty_none true = refl
-empty_none false = refl
 
 -- a shard that is still to be raised
 pub next_raised : (id count time rising shard : ℕ) (work : Work) (kept : Option ℕ)
@@ -33,28 +32,22 @@ next_raised id count time rising shard work kept stopped lt well =
     ap (λ b. shard_next b (raise_from count time rising ++ work_from count work shard)) well
     ∙ ap (λ es. shard_next false (es ++ work_from count work shard)) (raise_here count time rising lt)
 
--- once all are, one that has a part
-pub next_given : (id count time rising shard : ℕ) (work : Work) (kept : Option ℕ) (stopped : Bool)
-    → IsVisit count rising shard work → count ≤ rising → shard < count → stopped ≡ false
-    → next_shard (visit_of id count time rising shard work kept stopped) ≡ Some shard
-next_given id count time rising shard Raise kept stopped valid over lt well =
-    absurd (omega (arith, valid.place, lt))
-next_given id count time rising shard (Give parts) kept stopped valid over lt well =
-    ap (λ b. shard_next b (raise_from count time rising ++ give_from count (part_at parts) shard)) well
-    ∙ ap (λ es. shard_next false (es ++ give_from count (part_at parts) shard)) (raise_end count time rising over)
-    ∙ ap (shard_next false) (give_here count (part_at parts) shard lt (valid.place.1 lt))
+-- once all are, what the visit does then
+pub next_work : (id count time rising shard : ℕ) (work : Work) (kept : Option ℕ) (stopped : Bool)
+    → count ≤ rising → stopped ≡ false
+    → next_shard (visit_of id count time rising shard work kept stopped)
+    ≡ shard_next false (work_from count work shard)
+next_work id count time rising shard work kept stopped over well =
+    ap (λ b. shard_next b (raise_from count time rising ++ work_from count work shard)) well
+    ∙ ap (λ es. shard_next false (es ++ work_from count work shard)) (raise_end count time rising over)
 
-work_end : (count shard : ℕ) (work : Work) → count ≤ shard → work_from count work shard ≡ []
-work_end count shard Raise le = refl
-work_end count shard (Give parts) le = give_end count (part_at parts) shard le
+pub next_part : (count shard : ℕ) (parts : Parts) → shard < count → (part_at parts shard).given ≢ []
+    → shard_next false (work_from count (Give parts) shard) ≡ Some shard
+next_part count shard parts lt some = ap (shard_next false) (give_here count (part_at parts) shard lt some)
 
-pub next_none : (id count time rising shard : ℕ) (work : Work) (kept : Option ℕ) (stopped : Bool)
-    → count ≤ rising → count ≤ shard
-    → next_shard (visit_of id count time rising shard work kept stopped) ≡ None
-next_none id count time rising shard work kept stopped over past =
-    ap (λ es. shard_next stopped (es ++ work_from count work shard)) (raise_end count time rising over)
-    ∙ ap (shard_next stopped) (work_end count shard work past)
-    ∙ empty_none stopped
+pub no_part : (count shard : ℕ) (parts : Parts) → count ≤ shard
+    → shard_next false (work_from count (Give parts) shard) ≡ None
+no_part count shard parts over = ap (shard_next false) (give_end count (part_at parts) shard over)
 
 -- a visit that names a shard has not been refused
 pub is_going : (stopped : Bool) (plan : List Errand) → shard_next stopped plan ≢ None
@@ -63,12 +56,13 @@ is_going true plan some = absurd (some refl)
 is_going false plan some = refl
 
 -- and it has one left
-pub is_there : (id count time rising shard : ℕ) (work : Work) (kept : Option ℕ) (stopped : Bool)
-    → IsVisit count rising shard work → count ≤ rising
-    → next_shard (visit_of id count time rising shard work kept stopped) ≢ None → shard < count
-is_there id count time rising shard work kept stopped valid over some = elim (cases_eq shard count) [
-  | inl same ↦ absurd (some (next_none id count time rising shard work kept stopped over (omega (arith, same))))
-  | inr other ↦ omega (arith, other, valid.within)
+pub is_there : (id count time rising shard : ℕ) (parts : Parts) (kept : Option ℕ) (stopped : Bool)
+    → shard ≤ count → count ≤ rising → stopped ≡ false
+    → next_shard (visit_of id count time rising shard (Give parts) kept stopped) ≢ None
+    → shard < count
+is_there id count time rising shard parts kept stopped within over well some = elim (cases_eq shard count) [
+  | inl same ↦ absurd (some (next_work id count time rising shard (Give parts) kept stopped over well ∙ no_part count shard parts (omega (arith, same))))
+  | inr other ↦ omega (arith, other, within)
 ]
 
 -- ---- one entry less
@@ -100,20 +94,29 @@ shorter_stopped v e rest plan well =
 
 -- ---- entries
 
-keeps_earlier : (work : Work) (kept : Option ℕ) (horizon : ℕ)
+-- what was read is no horizon
+read_keeps : (made : Made) (horizon : ℕ) → IsRead made → keeps made horizon ≡ made
+read_keeps (gathered latest table) horizon read = refl
+read_keeps (answered messages) horizon read = refl
+read_keeps (joined h) horizon read = refl
+read_keeps made horizon read = absurd read
+
+keeps_earlier : (id count shard : ℕ) (work : Work) (kept : Option ℕ) (horizon : ℕ)
+    → IsPlace id count shard work
     → made_of work (Some (earlier kept horizon)) ≡ keeps (made_of work kept) horizon
-keeps_earlier Raise None horizon = refl
-keeps_earlier Raise (Some earliest) horizon = refl
-keeps_earlier (Give parts) kept horizon = refl
+keeps_earlier id count shard Raise None horizon place = refl
+keeps_earlier id count shard Raise (Some earliest) horizon place = refl
+keeps_earlier id count shard (Give parts) kept horizon place = refl
+keeps_earlier id count shard (Read reading) kept horizon place = sym (read_keeps reading.made horizon place.made)
 
 -- a node that is raised
 pub enters_raised : (id count time rising shard horizon : ℕ) (work : Work) (kept : Option ℕ)
-    (stopped : Bool) (n m : NodeState) → rising < count → stopped ≡ false
-    → Goes n (call.Horizon time) (reply.Kept horizon) m → KeepsBytes n.pool m.pool
+    (stopped : Bool) (n m : NodeState) → IsVisit id count rising shard work → rising < count
+    → stopped ≡ false → Goes n (call.Horizon time) (reply.Kept horizon) m → KeepsBytes n.pool m.pool
     → let v = visit_of id count time rising shard work kept stopped in
     let w = visit_of id count time (rising + 1) shard work (Some (earlier kept horizon)) stopped in
     HasEntered v n w m × (entries_left w < entries_left v)
-enters_raised id count time rising shard horizon work kept stopped n m lt well goes bytes =
+enters_raised id count time rising shard horizon work kept stopped n m valid lt well goes bytes =
     let v = visit_of id count time rising shard work kept stopped in
     let later = raise_from count time (rising + 1) ++ work_from count work shard in
     let plan : v.plan ≡ at_shard rising (giving (at_horizon time)) ∷ later = ap (λ es. es ++ work_from count work shard) (raise_here count time rising lt) in
@@ -122,8 +125,8 @@ enters_raised id count time rising shard horizon work kept stopped n m lt well g
       rest = later;
       next = plan;
       says = ((goes.0, bytes), goes.1);
-      takes = ap (onward v later) (keeps_earlier work kept horizon);
-    }), shorter_by_one v (at_shard rising (giving (at_horizon time))) later stopped ends plan well well refl)
+      takes = ap (onward v later) (keeps_earlier id count shard work kept horizon valid.place);
+    }), shorter_by_one v (at_shard rising (giving (at_horizon time))) later stopped (after_of work) plan well well refl)
 
 -- the plan of a visit whose shards are all raised
 given_plan : (count time rising shard : ℕ) (parts : Parts) → count ≤ rising → shard < count
@@ -136,7 +139,7 @@ given_plan count time rising shard parts over lt some =
 
 -- a node that has no memory for its part
 pub enters_refused : (id count time rising shard : ℕ) (parts : Parts) (kept : Option ℕ)
-    (stopped : Bool) (n m : NodeState) → IsVisit count rising shard (Give parts) → count ≤ rising
+    (stopped : Bool) (n m : NodeState) → IsVisit id count rising shard (Give parts) → count ≤ rising
     → shard < count → stopped ≡ false → IsSame n m
     → let v = visit_of id count time rising shard (Give parts) kept stopped in
     HasEntered v n (visit_of id count time rising shard (Give parts) kept true) m
@@ -156,7 +159,7 @@ enters_refused id count time rising shard parts kept stopped n m valid over lt w
 
 -- a node that takes its part in
 pub enters_given : (id count time rising shard first : ℕ) (parts : Parts) (kept : Option ℕ)
-    (stopped : Bool) (n m : NodeState) → IsVisit count rising shard (Give parts) → count ≤ rising
+    (stopped : Bool) (n m : NodeState) → IsVisit id count rising shard (Give parts) → count ≤ rising
     → shard < count → stopped ≡ false → IsGiven (part_at parts shard) n m
     → IsFirstPart parts (shard + 1) first
     → let v = visit_of id count time rising shard (Give parts) kept stopped in
@@ -176,3 +179,49 @@ enters_given id count time rising shard first parts kept stopped n m valid over 
       says = (is, refl);
       takes = ap (λ (es : List Errand). let x : VisitState = record v { plan = es } in x) rest;
     }), subst (λ (es : List Errand). entries_unless stopped es ends < entries_left v) (sym rest) (shorter_by_one v e later stopped ends plan well well refl))
+
+-- ---- a visit that reads, once all shards are raised
+
+-- it is what reads
+pub read_is : (id count time rising shard : ℕ) (reading : VisitState) (kept : Option ℕ)
+    (stopped : Bool) → IsReader id count reading → count ≤ rising → stopped ≡ reading.stopped
+    → visit_of id count time rising shard (Read reading) kept stopped ≡ reading
+read_is id count time rising shard reading kept stopped is over same =
+    let plan = raise_end count time rising over in
+    λ i. record {
+      id = sym is.id i;
+      count = sym is.count i;
+      plan = plan i ++ reading.plan;
+      made = reading.made;
+      after = reading.after;
+      stopped = same i;
+    }
+
+pub enters_read : (id count time rising shard : ℕ) (v w : VisitState) (kept : Option ℕ)
+    (stopped : Bool) (n m : NodeState) → IsReader id count v → count ≤ rising → stopped ≡ false
+    → HasRead v n w m
+    → let x = visit_of id count time rising shard (Read v) kept stopped in
+    let y = visit_of id count time rising shard (Read w) kept stopped in
+    HasEntered x n y m × (entries_left y < entries_left x)
+enters_read id count time rising shard v w kept stopped n m is over well read =
+    let then : IsReader id count w = record { id = read.id ∙ is.id; count = read.count ∙ is.count; going = read.going; made = read.made } in
+    let before = read_is id count time rising shard v kept stopped is over (well ∙ sym is.going) in
+    let after = read_is id count time rising shard w kept stopped then over (well ∙ sym read.going) in
+    subst (λ (x : VisitState). HasEntered x n (visit_of id count time rising shard (Read w) kept stopped) m × (entries_left (visit_of id count time rising shard (Read w) kept stopped) < entries_left x)) (sym before)
+    (subst (λ (y : VisitState). HasEntered v n y m × (entries_left y < entries_left v)) (sym after) (read.entered, read.shorter))
+
+-- it is refused
+pub refused_read : (id count time rising shard : ℕ) (v w : VisitState) (kept : Option ℕ)
+    (stopped : Bool) (n m : NodeState) → IsReader id count v → count ≤ rising → stopped ≡ false
+    → HasEntered v n (record v { stopped = true }) m → w ≡ v
+    → let x = visit_of id count time rising shard (Read v) kept stopped in
+    HasEntered x n (visit_of id count time rising shard (Read w) kept true) m × (0 < entries_left x)
+refused_read id count time rising shard v w kept stopped n m is over well entered same =
+    let before = read_is id count time rising shard v kept stopped is over (well ∙ sym is.going) in
+    let plan = raise_end count time rising over in
+    let after : visit_of id count time rising shard (Read w) kept true ≡ record v { stopped = true } =
+    ap (λ (u : VisitState). visit_of id count time rising shard (Read u) kept true) same
+    ∙ (λ i. record { id = sym is.id i; count = sym is.count i; plan = plan i ++ v.plan; made = v.made; after = v.after; stopped = true }) in
+    let some : 0 < entries_left v = shorter_stopped v entered.0 entered.2.rest entered.2.next entered.2.ready in
+    subst (λ (x : VisitState). HasEntered x n (visit_of id count time rising shard (Read w) kept true) m × (0 < entries_left x)) (sym before)
+    (subst (λ (y : VisitState). HasEntered v n y m) (sym after) entered, some)

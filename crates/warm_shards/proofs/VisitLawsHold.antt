@@ -23,6 +23,7 @@ ends_so well S old new w gives so = record {
   stopped = λ is. (subst (λ b. IfErr (result_of b) (λ why. (why ≡ Memory) × TakesInFirst old S new)) is gives.refused).1;
   pools = gives.pools;
   shards = gives.shards;
+  id = gives.id;
 }
 
 pub giving_is_one_node : GivingIsOneNode

@@ -1,9 +1,10 @@
 -- A visit that reads, and that nobody interrupts, is the call of the one node.
 use Rattle.std.proofs.Common.{◌≡◌, inl, inr, ℕ, ◌+◌, false, List, [], length, refl, sym, ap, subst, ◌∙◌, arith}
-use Rattle.std.specs.Prelude.{None}
+use Rattle.std.specs.Prelude.{None, Some}
 use Rattle.warm_history.specs.ReferenceSets.{ReferenceSet, set_of_list}
 use Rattle.warm_history.proofs.HistoryLemmas.{IsHistory-history}
 use Rattle.warm_history.proofs.JoinLemmas.{raised_to_no_later}
+use Rattle.warm_frames.specs.declared.message.Message.{Message}
 use Rattle.warm_frames.specs.declared.message.Message.TheVariants.{Digest, Want}
 use Rattle.warm_peer.specs.Answers.{refs_in, requested_messages}
 use Rattle.warm_gossip.specs.State.{NodeState}
@@ -13,12 +14,12 @@ use Rattle.warm_shards.specs.Clauses.{SameShards, TakesInFirst, Together}
 use Rattle.warm_shards.specs.Given.{AreGiven, at_horizon}
 use Rattle.warm_shards.specs.Shards.{AreShards, held, shard_at, whole}
 use Rattle.warm_shards.specs.VisitLaws.{Alone, EndsAlone, EntersAlone, ReadingIsOneNode, ReceivesAlone, Whenever, alone}
-use Rattle.warm_shards.specs.Visits.{After, Errand, Made, Said, VisitState, answered, answers_of, at_each, compares, copy_visit, copying, ends, gathered, joined, next_shard, no_offer, offer_of, offer_visit, offering, receive_visit, send_plan}
+use Rattle.warm_shards.specs.Visits.{After, Errand, Made, Said, VisitState, answered, answers_of, at_each, compares, copy_of, copy_visit, copying, ends, gathered, joined, next_shard, no_offer, offer_of, offer_visit, offering, receive_visit, send_plan}
 use Rattle.warm_shards.proofs.AnswerLemmas.{offered}
 use Rattle.warm_shards.proofs.AreShardsLemmas.{some_shards}
-use Rattle.warm_shards.proofs.Calls.{keep_then, same_keeps, same_none, same_shards, same_whole}
-use Rattle.warm_shards.proofs.GivenLemmas.{raised_alone}
-use Rattle.warm_shards.proofs.Receiving.{digests_received, raised_id, request_received}
+use Rattle.warm_shards.proofs.Calls.{keep_then, same_ids, same_keeps, same_none, same_shards, same_whole}
+use Rattle.warm_shards.proofs.GivenLemmas.{given_id, raised_alone}
+use Rattle.warm_shards.proofs.Receiving.{digests_received, request_received}
 use Rattle.warm_shards.specs.VisitReads.{from_shard}
 use Rattle.warm_shards.proofs.VisitReads.{all_keep, all_there, visit_at}
 use Rattle.warm_shards.proofs.VisitReadsCopies.{Copies, all_copied, copies_on}
@@ -44,11 +45,12 @@ ends_same well old new w are same done = record {
   stopped = λ stopped. none_taken old new are same;
   pools = same_keeps old new same;
   shards = same_shards old new same (some_shards old are) are;
+  id = same_ids old new same 0;
 }
 
 -- ---- copies
 
-pub copies : Whenever copy_visit (λ old. EndsAlone (λ w new. w.made ≡ joined (whole old))
+pub copies : Whenever copy_visit (λ old. EndsAlone (λ w new. copy_of w.made ≡ Some (whole old))
     (set_of_list []) old)
 copies old new w are (entries, runs) over =
     let id = (shard_at old 0).id in
@@ -61,7 +63,7 @@ copies old new w are (entries, runs) over =
       visit = λ i. visit_at id count (from_first count copying i) (joined (none_joined i)) ends false;
     } in
     let last : Copies old (alone w new) = all_keep EntersAlone (Copies old) (λ s y e said. copies_on old s y e said) (alone (copy_visit id count) old) (alone w new) entries first runs in
-    ends_same (λ u ns. u.made ≡ joined (whole old)) old new w are last.same (λ going. all_copied old (alone w new) last over going)
+    ends_same (λ u ns. copy_of u.made ≡ Some (whole old)) old new w are last.same (λ going. ap copy_of (all_copied old (alone w new) last over going))
 
 -- ---- offers
 
@@ -69,7 +71,8 @@ Offering : List NodeState → Alone → Type 0
 Offering old s = (k : ℕ) × Offers old ends k s
 
 abbrev pub AnOffer : List NodeState → VisitState → List NodeState → Type 0
-AnOffer old w new = Together old Offer (Sent (offer_of w.id w.made)) new
+AnOffer old w new = (offer : Message) × (offer_of w.id w.made ≡ Some offer)
+    × Together old Offer (Sent offer) new
 
 offers_on : (old : List NodeState) → AreShards old → (s y : Alone) (e : Errand) (said : Said)
     → Offering old s → EntersAlone s e said y → Offering old y
@@ -88,7 +91,7 @@ offer_made old t k are have over going =
     let all : k ≡ length old = all_there k (length old) offering have.stopped have.within here (ap next_shard (sym have.visit) ∙ over) in
     let is = all_offered old have.latest have.table are (subst (λ n. Offered old n have.latest have.table) all have.offered) in
     subst (λ (x : VisitState). AnOffer old x t.shards) (sym have.visit)
-    (offered old t.shards (shard_at old 0).id have.latest have.table have.same refl is.0 is.1)
+    (Digest (shard_at old 0).id have.latest have.table, refl, offered old t.shards (shard_at old 0).id have.latest have.table have.same refl is.0 is.1)
 
 pub offers : Whenever offer_visit (λ old. EndsAlone (AnOffer old) (set_of_list []) old)
 unfolding Offering
@@ -111,6 +114,7 @@ ends_raised well old mid new w time S are at raised same done = record {
   stopped = λ stopped. raised_alone old mid new time S are at raised (same_whole mid new same);
   pools = keep_then old mid new raised.pools (same_keeps mid new same);
   shards = same_shards mid new same (some_shards mid raised.shards) raised.shards;
+  id = same_ids mid new same 0 ∙ given_id (at_horizon time) old mid raised;
 }
 
 -- a raised visit, as one of the shards as they are then
@@ -119,7 +123,7 @@ after_raise : (old mid : List NodeState) (time : ℕ) (made : Made) (after : Aft
     → visit_at (shard_at old 0).id (length old) (plan (length old)) made after false
     ≡ visit_at (shard_at mid 0).id (length mid) (plan (length mid)) made after false
 after_raise old mid time made after plan raised =
-    let id = raised_id old mid time raised in
+    let id = given_id (at_horizon time) old mid raised in
     let count = raised.pools.count in
     λ i. visit_at (sym id i) (sym count i) (plan (sym count i)) made after false
 

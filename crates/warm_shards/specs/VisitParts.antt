@@ -1,5 +1,5 @@
 -- How a visit is held: the shard of its next errand, and what it does in each.
-use Rattle.std.specs.Prelude.{◌≡◌, ◌≢◌, ℕ, zero, suc, ◌-◌, ◌<◌, ◌≤◌, Bool, List, [], ◌∷◌, ◌++◌}
+use Rattle.std.specs.Prelude.{◌≡◌, ◌≢◌, ℕ, zero, suc, ◌-◌, ◌<◌, ◌≤◌, Bool, false, List, [], ◌∷◌, ◌++◌}
 use Rattle.std.specs.Prelude.{length, map, min, Option, Some, None}
 use Rattle.std.specs.Global.{Vec}
 use Rattle.std.specs.List.{flat_map, range_with_len}
@@ -8,10 +8,11 @@ use Rattle.warm_history.specs.Histories.{history_of_entries_at, references_of}
 use Rattle.warm_shards.specs.declared.giving.Parts.{Parts}
 use Rattle.warm_shards.specs.declared.giving.Parts.TheVariants.{Batch, Entries}
 use Rattle.warm_shards.specs.declared.visit.Work.{Work}
-use Rattle.warm_shards.specs.declared.visit.Work.TheVariants.{Give, Raise}
+use Rattle.warm_shards.specs.declared.visit.Work.TheVariants.{Give, Raise, Read}
 use Rattle.warm_shards.specs.Given.{at_horizon}
 use Rattle.warm_shards.specs.Shards.{IsShardCount}
-use Rattle.warm_shards.specs.Visits.{Errand, Made, VisitState, at_shard, ends, give_part, giving}
+use Rattle.warm_shards.specs.VisitReads.{IsRead}
+use Rattle.warm_shards.specs.Visits.{After, Errand, Made, VisitState, at_shard, ends, give_part, giving}
 use Rattle.warm_shards.specs.Visits.{nothing, raised}
 
 -- Parts
@@ -66,6 +67,7 @@ give_from count part first = flat_map (λ i. give_part i (part i)) (shards_from 
 abbrev pub work_from : ℕ → Work → ℕ → List Errand
 work_from count Raise first = []
 work_from count (Give parts) first = give_from count (part_at parts) first
+work_from count (Read reading) first = reading.plan
 
 -- the earliest horizon, with this one; and as what a visit has made
 abbrev pub earlier : Option ℕ → ℕ → ℕ
@@ -75,6 +77,11 @@ earlier (Some earliest) horizon = min earliest horizon
 abbrev pub made_of : Work → Option ℕ → Made
 made_of Raise kept = raised kept
 made_of (Give parts) kept = nothing
+made_of (Read reading) kept = reading.made
+
+abbrev pub after_of : Work → After
+after_of (Read reading) = reading.after
+after_of work = ends
 
 abbrev pub visit_of : ℕ → ℕ → ℕ → ℕ → ℕ → Work → Option ℕ → Bool → VisitState
 visit_of id count time rising shard work kept stopped = record {
@@ -82,18 +89,26 @@ visit_of id count time rising shard work kept stopped = record {
   count = count;
   plan = raise_from count time rising ++ work_from count work shard;
   made = made_of work kept;
-  after = ends;
+  after = after_of work;
   stopped = stopped;
 }
 
--- the shard is one that has an errand, or the count
-abbrev pub IsPlace : ℕ → ℕ → Work → Type 0
-IsPlace count shard Raise = shard ≡ count
-IsPlace count shard (Give parts) = (parts_count parts ≡ count)
-    × (shard < count → (part_at parts shard).given ≢ [])
+-- what it reads is of the same shards, was not refused, and no horizon that a shard kept
+pub record IsReader (number shards : ℕ) (reading : VisitState) : Type 0 where
+  pub id : reading.id ≡ number
+  pub count : reading.count ≡ shards
+  pub going : reading.stopped ≡ false
+  pub made : IsRead reading.made
 
-pub record IsVisit (count rising shard : ℕ) (work : Work) : Type 0 where
+-- the shard is one that has an errand, or the count
+abbrev pub IsPlace : ℕ → ℕ → ℕ → Work → Type 0
+IsPlace id count shard Raise = shard ≡ count
+IsPlace id count shard (Give parts) = (parts_count parts ≡ count)
+    × (shard < count → (part_at parts shard).given ≢ [])
+IsPlace id count shard (Read reading) = IsReader id count reading
+
+pub record IsVisit (id count rising shard : ℕ) (work : Work) : Type 0 where
   pub valid : IsShardCount count
   pub begins : rising ≤ count
   pub within : shard ≤ count
-  pub place : IsPlace count shard work
+  pub place : IsPlace id count shard work

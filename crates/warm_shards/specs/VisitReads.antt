@@ -3,9 +3,8 @@ use Rattle.std.specs.Prelude.{◌≡◌, ℕ, ◌+◌, ◌-◌, ◌%◌, ◌^◌
 use Rattle.std.specs.Prelude.{Option, Some, None, Result, Ok, Err}
 use Rattle.std.specs.List.{range_with_len}
 use Rattle.warm_stamps.specs.declared.PageId.{PageId}
-use Rattle.warm_history.specs.Histories.{HistoryView}
 use Rattle.warm_frames.specs.declared.message.Message.{Message}
-use Rattle.warm_frames.specs.declared.message.Message.TheVariants.{Digest, Entries, Want}
+use Rattle.warm_frames.specs.declared.message.Message.TheVariants.{Entries, Want}
 use Rattle.warm_gossip.specs.declared.fault.NodeFault.{NodeFault}
 use Rattle.warm_gossip.specs.declared.fault.NodeFault.TheVariants.{Memory}
 use Rattle.warm_gossip.specs.State.{NodeState}
@@ -135,15 +134,3 @@ GathersOne id count g old (Ok (Some s)) h new =
     HasRead (gathering_visit id count g) old (sending_visit id count s) new × IsPage s.after
 GathersOne id count g old (Err why) h new = (h ≡ g) × (why ≡ Memory)
     × HasEntered (gathering_visit id count g) old (record (gathering_visit id count g) { stopped = true }) new
-
--- What was made
-
--- what all shards offer, if that was gathered
-abbrev pub offer_in : ℕ → Made → Option Message
-offer_in id (gathered horizon table) = Some (Digest id horizon table)
-offer_in id made = None
-
--- the history of all shards, if that was copied
-abbrev pub history_in : Made → Option HistoryView
-history_in (joined h) = Some h
-history_in made = None

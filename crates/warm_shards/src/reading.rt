@@ -3,10 +3,10 @@ ghost use Rattle.std.specs.Prelude.{◌≡◌, ◌≢◌, ◌<◌, ◌≤◌, �
 ghost use Rattle.std.specs.Prelude.{IfOk, IfSome, None, Some};
 ghost use Rattle.warm_frames.specs.declared.layout.TheConstants.{DIGEST_SIZE};
 ghost use Rattle.warm_shards.specs.Visits.{Compares, VisitState, answered, answers_of, at_each};
-ghost use Rattle.warm_shards.specs.Visits.{begun, compares, copy_visit, ends, next_shard};
-ghost use Rattle.warm_shards.specs.Visits.{no_offer, offer_visit, offering, send_plan};
+ghost use Rattle.warm_shards.specs.Visits.{begun, compares, copy_of, copy_visit, ends, next_shard};
+ghost use Rattle.warm_shards.specs.Visits.{no_offer, offer_of, offer_visit, offering, send_plan};
 ghost use Rattle.warm_shards.specs.VisitReads.{GathersOne, IsPage, IsReading, ReadsOne};
-ghost use Rattle.warm_shards.specs.VisitReads.{copying_visit, gathered_in, history_in, offer_in};
+ghost use Rattle.warm_shards.specs.VisitReads.{copying_visit, gathered_in};
 ghost use Rattle.warm_shards.specs.VisitReads.{reading_of, sending_visit, waits_for};
 
 use crate::gathering::Gathering;
@@ -149,7 +149,12 @@ fn enter_task<D: PageDevice>(
 
 impl Reading {
     // With no digest yet.
-    fn gathers(alloc: Global, id: ReplicaId, count: usize, waiting: Option<DigestTable>) -> Reading
+    fn gathers(
+        alloc: Global,
+        id: ReplicaId,
+        count: usize,
+        waiting: Option<DigestTable>,
+    ) -> Reading
         requires { 0 < count }
         ensures { result ≡ begun id count (at_each count offering) no_offer (waits_for waiting) }
     {
@@ -190,7 +195,12 @@ impl Reading {
     }
 
     /// The requested buckets are sent, each by its shard. Allocation-free.
-    pub(crate) fn sends(alloc: Global, id: ReplicaId, count: usize, request: BucketSet) -> Reading
+    pub(crate) fn sends(
+        alloc: Global,
+        id: ReplicaId,
+        count: usize,
+        request: BucketSet,
+    ) -> Reading
         requires { 0 < count }
         ensures { result ≡ begun id count (send_plan count request) (answered []) ends }
     {
@@ -240,7 +250,7 @@ impl Reading {
 
     /// What all shards offer, once no errand is left.
     pub(crate) fn offer(&self) -> Option<Message>
-        ensures { result ≡ offer_in self.now.id self.now.made }
+        ensures { result ≡ offer_of self.now.id self.now.made }
     {
         let Task::Gather(gathering) = &self.task else {
             return None;
@@ -272,7 +282,7 @@ impl Reading {
 
     /// The history of all shards, once no errand is left.
     pub(crate) fn into_history(self) -> Option<History>
-        ensures { result ≡ history_in self.made }
+        ensures { result ≡ copy_of self.made }
     {
         let Reading { task, .. } = self;
         let Task::Copy(copying) = task else {
@@ -299,8 +309,8 @@ fn next_in(task: &Task, count: usize) -> Option<usize>
     }
 }
 
-// The shard of this number, if there is one.
-fn below(shard: usize, count: usize) -> Option<usize>
+/// The shard of this number, if there is one.
+pub(crate) fn below(shard: usize, count: usize) -> Option<usize>
     ensures { result ≡ (if nat_lt shard count then Some shard else None) }
 {
     if shard < count { Some(shard) } else { None }

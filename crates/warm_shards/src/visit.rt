@@ -2,19 +2,23 @@
 //! errand, and enters that with one step.
 //!
 //! Whoever has the shards drives it: a loop over nodes, threads by turns, or C by its locks.
-ghost use Rattle.std.specs.Prelude.{◌≡◌, ◌≢◌, ◌<◌, IfOk, IfSome, None};
+ghost use Rattle.std.specs.Prelude.{◌≡◌, ◌≢◌, ◌<◌, ◌≤◌, false, IfOk, IfSome, None, OnErr};
 ghost use Rattle.warm_history.specs.Histories.{entries_of, history_of_entries_at, references_of};
 ghost use Rattle.warm_shards.specs.Shards.{IsShardCount};
-ghost use Rattle.warm_shards.specs.VisitParts.{earlier};
-ghost use Rattle.warm_shards.specs.Visits.{HasEntered, absorb_visit, entries_left, give_visit};
-ghost use Rattle.warm_shards.specs.Visits.{join_visit, kept_of, next_shard, raise_visit};
-ghost use Rattle.warm_shards.specs.Visits.{result_of};
+ghost use Rattle.warm_shards.specs.VisitParts.{IsReader, earlier, visit_of};
+ghost use Rattle.warm_shards.specs.declared.visit.Work.TheVariants.{Read};
+ghost use Rattle.warm_shards.specs.Visits.{HasEntered, HasEntries, absorb_visit, answers_of};
+ghost use Rattle.warm_shards.specs.Visits.{copy_of, copy_visit, entries_left, give_visit};
+ghost use Rattle.warm_shards.specs.Visits.{join_visit, kept_of, next_shard, offer_of, offer_visit};
+ghost use Rattle.warm_shards.specs.Visits.{raise_visit, receive_visit, result_of};
 
 use crate::batch_parts::parts_of;
 use crate::giving::Parts;
+use crate::reading::{Reading, below};
 use std::alloc::{AllocError, Global};
 use std::marker::Model;
 use warm_devices::PageDevice;
+use warm_frames::{Message, MessageList};
 use warm_gossip::{Node, NodeFault};
 use warm_history::{Entry, History};
 use warm_stamps::{Reference, ReplicaId};
@@ -44,6 +48,8 @@ pub(crate) enum Work {
     Raise,
     // Each shard is given its part.
     Give(Parts),
+    // It is read.
+    Read(Reading),
 }
 
 impl Model for Visit {
@@ -54,7 +60,7 @@ impl Model for Visit {
 
     ghost view = { λ v. visit_of v.id v.count v.time v.rising v.shard v.work v.kept v.stopped };
 
-    ghost invariant = { λ v. IsVisit v.count v.rising v.shard v.work };
+    ghost invariant = { λ v. IsVisit v.id v.count v.rising v.shard v.work };
 }
 
 // The earlier one of two horizons.
@@ -167,6 +173,75 @@ impl Visit {
         Visit::entries(alloc, id, count, other.horizon(), &entries)
     }
 
+    // The visit that reads, once all shards are raised from this one on.
+    fn reads(id: ReplicaId, count: usize, time: u64, rising: usize, reading: Reading) -> Visit
+        requires valid { IsShardCount count }
+        requires begins { rising ≤ count }
+        requires reads { IsReader id count reading }
+        ensures { result ≡ visit_of id count time rising count (Read reading) None false }
+    {
+        Visit {
+            id,
+            count,
+            time,
+            rising,
+            shard: count,
+            work: Work::Read(reading),
+            kept: None,
+            stopped: false,
+        }
+    }
+
+    /// The visit in which each shard offers its digests. Allocation-free.
+    pub fn offer(alloc: Global, id: ReplicaId, count: usize) -> Visit
+        requires { IsShardCount count }
+        ensures { result ≡ offer_visit id count }
+    {
+        Visit::reads(id, count, 0, count, Reading::offers(alloc, id, count))
+    }
+
+    /// The visit in which the shards receive a message: each is raised to its horizon, and then
+    /// takes its entries in, sends the buckets that are requested, or offers its digests, which are
+    /// compared. Entries are copied.
+    ///
+    /// `AllocError` occurs only if an allocation fails, and of entries alone.
+    pub fn receive(
+        alloc: Global,
+        id: ReplicaId,
+        count: usize,
+        message: &Message,
+    ) -> Result<Visit, AllocError>
+        requires { IsShardCount count }
+        ensures begun { IfOk result (λ visit. visit ≡ receive_visit id count message.now) }
+        ensures refused { OnErr result (HasEntries message.now) }
+    {
+        match message {
+            Message::Entries {
+                horizon, entries, ..
+            } => Visit::entries(alloc, id, count, *horizon, entries.as_slice()),
+            Message::Digest {
+                horizon, digests, ..
+            } => {
+                let reading = Reading::compares(alloc, id, count, *digests);
+                Ok(Visit::reads(id, count, *horizon, 0, reading))
+            }
+            Message::Want {
+                horizon, request, ..
+            } => {
+                let reading = Reading::sends(alloc, id, count, *request);
+                Ok(Visit::reads(id, count, *horizon, 0, reading))
+            }
+        }
+    }
+
+    /// The visit that copies the history of each shard. Allocation-free.
+    pub fn copy(alloc: Global, id: ReplicaId, count: usize) -> Visit
+        requires { IsShardCount count }
+        ensures { result ≡ copy_visit id count }
+    {
+        Visit::reads(id, count, 0, count, Reading::copies(alloc, id, count))
+    }
+
     /// The number of the shard of its next errand; `None` if no errand is left, or a shard has
     /// refused one. Allocation-free.
     pub fn next(&self) -> Option<usize>
@@ -179,10 +254,11 @@ impl Visit {
         if self.rising < self.count {
             return Some(self.rising);
         }
-        if self.shard < self.count {
-            return Some(self.shard);
+        match &self.work {
+            Work::Raise => None,
+            Work::Give(_) => below(self.shard, self.count),
+            Work::Read(reading) => reading.next(),
         }
-        None
     }
 
     /// What the call returns, once no shard is named.
@@ -204,7 +280,41 @@ impl Visit {
     {
         match self.work {
             Work::Raise => self.kept,
-            Work::Give(_) => None,
+            _ => None,
+        }
+    }
+
+    /// The messages that answer, in order, of a visit that has no errand left: none, if it gives.
+    ///
+    /// `AllocError` occurs only if an allocation fails.
+    pub fn into_answers(self, alloc: Global) -> Result<MessageList, AllocError>
+        ensures { IfOk result (λ answers. answers ≡ answers_of self.made self.after) }
+    {
+        let Visit { work, .. } = self;
+        match work {
+            Work::Read(reading) => Ok(MessageList::of(reading.into_answers()?)),
+            _ => Ok(MessageList::of(Vec::new(alloc))),
+        }
+    }
+
+    /// What the shards offer, of a visit that offers. Allocation-free.
+    pub fn offered(&self) -> Option<Message>
+        ensures { result ≡ offer_of self.now.id self.now.made }
+    {
+        match &self.work {
+            Work::Read(reading) => reading.offer(),
+            _ => None,
+        }
+    }
+
+    /// The history that was copied, of a visit that copies. Allocation-free.
+    pub fn into_copy(self) -> Option<History>
+        ensures { result ≡ copy_of self.made }
+    {
+        let Visit { work, .. } = self;
+        match work {
+            Work::Read(reading) => reading.into_history(),
+            _ => None,
         }
     }
 
@@ -222,7 +332,7 @@ impl Visit {
             self.rising += 1;
             return;
         }
-        match &self.work {
+        match &mut self.work {
             Work::Raise => {}
             Work::Give(parts) => {
                 if let Err(_why) = parts.give(self.shard, node) {
@@ -230,6 +340,11 @@ impl Visit {
                     return;
                 }
                 self.shard = parts.first(self.shard + 1);
+            }
+            Work::Read(reading) => {
+                if let Err(_why) = reading.enter(node) {
+                    self.stopped = true;
+                }
             }
         }
     }
