@@ -1,7 +1,8 @@
 -- Digests and requests that shards receive by a visit.
-use Rattle.std.proofs.Common.{◌≡◌, inl, ℕ, ◌<◌, ◌≤◌, Bool, true, false, List, length, Result, Ok, Err, max, refl, sym, ap, subst, ◌∙◌, arith}
+use Rattle.std.proofs.Common.{◌≡◌, inl, ℕ, ◌<◌, ◌≤◌, Bool, true, false, List, [], length, Result, Ok, Err, max, refl, sym, ap, subst, ◌∙◌, arith}
 use Rattle.std.specs.Prelude.{None, nat_lt}
 use Rattle.std.proofs.lemmas.Bool.{ltb-false, ltb-true}
+use Rattle.warm_history.specs.declared.hist.Entry.{Entry}
 use Rattle.warm_history.specs.ReferenceSets.{ReferenceSet, ◌∪◌}
 use Rattle.warm_history.specs.Histories.{HistoryView, StandsFor, history, references_of}
 use Rattle.warm_history.proofs.HistoryLemmas.{IsHistory-history}
@@ -17,10 +18,10 @@ use Rattle.warm_gossip.specs.State.{NodeState, NodeView, empty_node, node_view}
 use Rattle.warm_pool.specs.View.{PoolView, view_of}
 use Rattle.warm_peer.specs.Answers.{IsAnswer, refs_in}
 use Rattle.warm_shards.specs.Clauses.{KeepPools, SameShards, TakesInFirst, Together}
-use Rattle.warm_shards.specs.Given.{Receives, at_horizon}
+use Rattle.warm_shards.specs.Given.{Gives, Receives, at_horizon}
 use Rattle.warm_shards.specs.Shards.{AreShards, held, of_first_shards, of_shard, shard_at, whole}
 use Rattle.warm_shards.specs.VisitLaws.{EndsAlone, GoesAlone, ReceivesAlone}
-use Rattle.warm_shards.specs.Visits.{HasEntries, VisitState, answers_of, next_shard, receive_visit}
+use Rattle.warm_shards.specs.Visits.{HasEntries, VisitState, answers_of, next_shard, receive_visit, result_of}
 use Rattle.warm_shards.proofs.AreShardsLemmas.{some_shards}
 use Rattle.warm_shards.proofs.GivenLemmas.{beyond}
 use Rattle.warm_shards.proofs.StandsForLemmas.{shard_stands}
@@ -72,26 +73,70 @@ receives_ok message old new w answers ends well is = record {
 
 -- a shard had no memory
 pub receives_stopped : (message : Message) (old new : List NodeState) (w : VisitState)
-    → Ends message old w new → w.stopped ≡ true → Receives message old (Err Memory) new
-receives_stopped message old new w ends stopped = record {
+    (why : NodeFault) → Ends message old w new → w.stopped ≡ true → why ≡ Memory
+    → Receives message old (Err why) new
+receives_stopped message old new w why ends stopped is = record {
   shards = ends.shards;
   id = ends.id;
   received = tt;
-  refused = (refl, ends.stopped stopped);
+  refused = (is, ends.stopped stopped);
   pools = ends.pools;
 }
 
+-- what the loop returned says whether one had
+pub stopped_if : (stopped : Bool) (why : NodeFault) → Err why ≡ result_of stopped
+    → (stopped ≡ true) × (why ≡ Memory)
+stopped_if true why is = (refl, cc)
+stopped_if false why is = absurd (cc)
+
+pub going_if : (stopped : Bool) (given : Unit {0}) → Ok given ≡ result_of stopped → stopped ≡ false
+going_if true given is = absurd (cc)
+going_if false given is = refl
+
 -- there was no memory for the answer
-pub receives_late : (message : Message) (old new : List NodeState) (w : VisitState) → AreShards old
-    → Ends message old w new → w.stopped ≡ false → (HasEntries message → ⊥)
-    → Receives message old (Err Memory) new
-receives_late message old new w are ends well none = record {
+pub receives_late : (message : Message) (old new : List NodeState) (w : VisitState)
+    (why : NodeFault) → AreShards old → Ends message old w new → w.stopped ≡ false
+    → (HasEntries message → ⊥) → why ≡ Memory → Receives message old (Err why) new
+receives_late message old new w why are ends well none memory = record {
   shards = ends.shards;
   id = ends.id;
   received = tt;
-  refused = (refl, all_first message old new are none (ap (λ (v : NodeView). v.history) (ends.done well empty_node.pool).1));
+  refused = (memory, all_first message old new are none (ap (λ (v : NodeView). v.history) (ends.done well empty_node.pool).1));
   pools = ends.pools;
 }
+
+-- ---- entries
+
+pub receives_given : (sender horizon : ℕ) (es : List Entry) (old new : List NodeState)
+    (given : Unit {0}) (answers : List Message) → answers ≡ []
+    → Gives (refs_in (Entries sender horizon es)) old (Ok given) new
+    → Receives (Entries sender horizon es) old (Ok answers) new
+receives_given sender horizon es old new given answers none gives = record {
+  shards = gives.shards;
+  id = gives.id;
+  received = λ pool. (none, gives.given pool);
+  refused = tt;
+  pools = gives.pools;
+}
+
+pub receives_some : (sender horizon : ℕ) (es : List Entry) (old new : List NodeState)
+    (why : NodeFault) → Gives (refs_in (Entries sender horizon es)) old (Err why) new
+    → Receives (Entries sender horizon es) old (Err why) new
+receives_some sender horizon es old new why gives = record {
+  shards = gives.shards;
+  id = gives.id;
+  received = tt;
+  refused = gives.refused;
+  pools = gives.pools;
+}
+
+-- a message that is not one of entries
+pub no_entries : (message : Message)
+    → ((sender horizon : ℕ) (es : List Entry) → message ≡ Entries sender horizon es → ⊥)
+    → HasEntries message → ⊥
+no_entries (Entries sender horizon entries) other has = other sender horizon entries refl
+no_entries (Want sender horizon request) other has = has
+no_entries (Digest sender horizon digests) other has = has
 
 -- ---- a message at no later horizon
 
