@@ -14,7 +14,7 @@ use Rattle.warm_shards.specs.declared.giving.Parts.{Parts}
 use Rattle.warm_shards.specs.declared.visit.Work.{Work}
 use Rattle.warm_shards.specs.declared.visit.Work.TheVariants.{Give, Raise, Read}
 use Rattle.warm_shards.specs.VisitParts.{IsFirstPart, IsPlace, IsReader, IsVisit, after_of, earlier, give_from, made_of, part_at, parts_count, raise_from, visit_of, work_from}
-use Rattle.warm_shards.specs.VisitReads.{HasRead, IsRead}
+use Rattle.warm_shards.specs.VisitReads.{HasReadOne, IsReadMade}
 use Rattle.warm_shards.specs.Visits.{After, Ask, Enters, Errand, HasEntered, Made, Said, Takes, VisitState, answered, at_shard, copying, ends, entries_for, entries_for_all, entries_left, entries_unless, gathered, given, giving, joined, keeps, next_shard, offering, onward, refused, sending, shard_next}
 use Rattle.warm_shards.proofs.VisitPlans.{give_end, give_here, give_skip, raise_end, raise_here}
 
@@ -95,7 +95,7 @@ shorter_stopped v e rest plan well =
 -- ---- entries
 
 -- what was read is no horizon
-read_keeps : (made : Made) (horizon : ℕ) → IsRead made → keeps made horizon ≡ made
+read_keeps : (made : Made) (horizon : ℕ) → IsReadMade made → keeps made horizon ≡ made
 read_keeps (gathered latest table) horizon read = refl
 read_keeps (answered messages) horizon read = refl
 read_keeps (joined h) horizon read = refl
@@ -119,14 +119,20 @@ pub enters_raised : (id count time rising shard horizon : ℕ) (work : Work) (ke
 enters_raised id count time rising shard horizon work kept stopped n m valid lt well goes bytes =
     let v = visit_of id count time rising shard work kept stopped in
     let later = raise_from count time (rising + 1) ++ work_from count work shard in
-    let plan : v.plan ≡ at_shard rising (giving (at_horizon time)) ∷ later = ap (λ es. es ++ work_from count work shard) (raise_here count time rising lt) in
-    ((at_shard rising (giving (at_horizon time)), given horizon, record {
-      ready = well;
-      rest = later;
-      next = plan;
-      says = ((goes.0, bytes), goes.1);
-      takes = ap (onward v later) (keeps_earlier id count shard work kept horizon valid.place);
-    }), shorter_by_one v (at_shard rising (giving (at_horizon time))) later stopped (after_of work) plan well well refl)
+    let plan : v.plan ≡ at_shard rising (giving (at_horizon time)) ∷ later = ap (λ es. es ++ work_from count work shard) (raise_here count time rising lt) in (
+      (
+        at_shard rising (giving (at_horizon time)),
+        given horizon,
+        record {
+          ready = well;
+          rest = later;
+          next = plan;
+          says = ((goes.0, bytes), goes.1);
+          takes = ap (onward v later) (keeps_earlier id count shard work kept horizon valid.place);
+        },
+      ),
+      shorter_by_one v (at_shard rising (giving (at_horizon time))) later stopped (after_of work) plan well well refl,
+    )
 
 -- the plan of a visit whose shards are all raised
 given_plan : (count time rising shard : ℕ) (parts : Parts) → count ≤ rising → shard < count
@@ -148,14 +154,20 @@ enters_refused id count time rising shard parts kept stopped n m valid over lt w
     let v = visit_of id count time rising shard (Give parts) kept stopped in
     let e = at_shard shard (giving (part_at parts shard)) in
     let later = give_from count (part_at parts) (shard + 1) in
-    let plan = given_plan count time rising shard parts over lt (valid.place.1 lt) in
-    ((e, refused, record {
-      ready = well;
-      rest = later;
-      next = plan;
-      says = (valid.place.1 lt, same);
-      takes = refl;
-    }), shorter_stopped v e later plan well)
+    let plan = given_plan count time rising shard parts over lt (valid.place.1 lt) in (
+      (
+        e,
+        refused,
+        record {
+          ready = well;
+          rest = later;
+          next = plan;
+          says = (valid.place.1 lt, same);
+          takes = refl;
+        },
+      ),
+      shorter_stopped v e later plan well,
+    )
 
 -- a node that takes its part in
 pub enters_given : (id count time rising shard first : ℕ) (parts : Parts) (kept : Option ℕ)
@@ -171,14 +183,20 @@ enters_given id count time rising shard first parts kept stopped n m valid over 
     let e = at_shard shard (giving (part_at parts shard)) in
     let later = give_from count (part_at parts) (shard + 1) in
     let plan = given_plan count time rising shard parts over lt (valid.place.1 lt) in
-    let rest : w.plan ≡ later = ap (λ es. es ++ give_from count (part_at parts) first) (raise_end count time rising over) ∙ sym (give_skip count (shard + 1) first parts valid.place.0 from) in
-    ((e, given m.history.horizon, record {
-      ready = well;
-      rest = later;
-      next = plan;
-      says = (is, refl);
-      takes = ap (λ (es : List Errand). let x : VisitState = record v { plan = es } in x) rest;
-    }), subst (λ (es : List Errand). entries_unless stopped es ends < entries_left v) (sym rest) (shorter_by_one v e later stopped ends plan well well refl))
+    let rest : w.plan ≡ later = ap (λ es. es ++ give_from count (part_at parts) first) (raise_end count time rising over) ∙ sym (give_skip count (shard + 1) first parts valid.place.0 from) in (
+      (
+        e,
+        given m.history.horizon,
+        record {
+          ready = well;
+          rest = later;
+          next = plan;
+          says = (is, refl);
+          takes = ap (λ (es : List Errand). let x : VisitState = record v { plan = es } in x) rest;
+        },
+      ),
+      subst (λ (es : List Errand). entries_unless stopped es ends < entries_left v) (sym rest) (shorter_by_one v e later stopped ends plan well well refl),
+    )
 
 -- ---- a visit that reads, once all shards are raised
 
@@ -199,7 +217,7 @@ read_is id count time rising shard reading kept stopped is over same =
 
 pub enters_read : (id count time rising shard : ℕ) (v w : VisitState) (kept : Option ℕ)
     (stopped : Bool) (n m : NodeState) → IsReader id count v → count ≤ rising → stopped ≡ false
-    → HasRead v n w m
+    → HasReadOne v n w m
     → let x = visit_of id count time rising shard (Read v) kept stopped in
     let y = visit_of id count time rising shard (Read w) kept stopped in
     HasEntered x n y m × (entries_left y < entries_left x)

@@ -18,7 +18,7 @@ use Rattle.warm_gossip.specs.State.{NodeState, NodeView, empty_node, node_view}
 use Rattle.warm_pool.specs.View.{PoolView, view_of}
 use Rattle.warm_peer.specs.Answers.{IsAnswer, refs_in}
 use Rattle.warm_shards.specs.Clauses.{KeepPools, SameShards, TakesInFirst, Together}
-use Rattle.warm_shards.specs.Given.{Gives, Receives, at_horizon}
+use Rattle.warm_shards.specs.Given.{Gives, ReceivesAll, at_horizon}
 use Rattle.warm_shards.specs.Shards.{AreShards, held, of_first_shards, of_shard, shard_at, whole}
 use Rattle.warm_shards.specs.VisitLaws.{EndsAlone, GoesAlone, ReceivesAlone}
 use Rattle.warm_shards.specs.Visits.{HasEntries, VisitState, answers_of, next_shard, receive_visit, result_of}
@@ -62,7 +62,7 @@ all_first message old new are none is =
 
 pub receives_ok : (message : Message) (old new : List NodeState) (w : VisitState)
     (answers : List Message) → Ends message old w new → w.stopped ≡ false
-    → answers ≡ answers_of w.made w.after → Receives message old (Ok answers) new
+    → answers ≡ answers_of w.made w.after → ReceivesAll message old (Ok answers) new
 receives_ok message old new w answers ends well is = record {
   shards = ends.shards;
   id = ends.id;
@@ -74,7 +74,7 @@ receives_ok message old new w answers ends well is = record {
 -- a shard had no memory
 pub receives_stopped : (message : Message) (old new : List NodeState) (w : VisitState)
     (why : NodeFault) → Ends message old w new → w.stopped ≡ true → why ≡ Memory
-    → Receives message old (Err why) new
+    → ReceivesAll message old (Err why) new
 receives_stopped message old new w why ends stopped is = record {
   shards = ends.shards;
   id = ends.id;
@@ -96,7 +96,7 @@ going_if false given is = refl
 -- there was no memory for the answer
 pub receives_late : (message : Message) (old new : List NodeState) (w : VisitState)
     (why : NodeFault) → AreShards old → Ends message old w new → w.stopped ≡ false
-    → (HasEntries message → ⊥) → why ≡ Memory → Receives message old (Err why) new
+    → (HasEntries message → ⊥) → why ≡ Memory → ReceivesAll message old (Err why) new
 receives_late message old new w why are ends well none memory = record {
   shards = ends.shards;
   id = ends.id;
@@ -110,7 +110,7 @@ receives_late message old new w why are ends well none memory = record {
 pub receives_given : (sender horizon : ℕ) (es : List Entry) (old new : List NodeState)
     (given : Unit {0}) (answers : List Message) → answers ≡ []
     → Gives (refs_in (Entries sender horizon es)) old (Ok given) new
-    → Receives (Entries sender horizon es) old (Ok answers) new
+    → ReceivesAll (Entries sender horizon es) old (Ok answers) new
 receives_given sender horizon es old new given answers none gives = record {
   shards = gives.shards;
   id = gives.id;
@@ -121,7 +121,7 @@ receives_given sender horizon es old new given answers none gives = record {
 
 pub receives_some : (sender horizon : ℕ) (es : List Entry) (old new : List NodeState)
     (why : NodeFault) → Gives (refs_in (Entries sender horizon es)) old (Err why) new
-    → Receives (Entries sender horizon es) old (Err why) new
+    → ReceivesAll (Entries sender horizon es) old (Err why) new
 receives_some sender horizon es old new why gives = record {
   shards = gives.shards;
   id = gives.id;
@@ -174,12 +174,12 @@ same_of_whole old new are now id is keep = record {
 -- a horizon that is not later changes nothing
 pub same_not_later : (message : Message) (old new : List NodeState)
     (result : Result (List Message) NodeFault) → AreShards old → (HasEntries message → ⊥)
-    → horizon_in message ≤ (whole old).horizon → Receives message old result new
+    → horizon_in message ≤ (whole old).horizon → ReceivesAll message old result new
     → SameShards old new
 same_not_later message old new result are none le had =
     same_of_whole old new are had.shards had.id (taken result had ∙ ap (λ S. history (references_of (whole old) ∪ S)) (no_reference message none) ∙ raised_to_no_later (whole old) (horizon_in message) (IsHistory-history (held old)) le) had.pools
   where
-    taken : (r : Result (List Message) NodeFault) → Receives message old r new
+    taken : (r : Result (List Message) NodeFault) → ReceivesAll message old r new
         → whole new ≡ history (references_of (whole old) ∪ refs_in message)
     taken (Ok answers) got = ap (λ (v : NodeView). v.history) (got.received empty_node.pool).1
     taken (Err why) got =
@@ -187,6 +187,6 @@ same_not_later message old new result are none le had =
         first.3 ∙ ap (λ S. history (references_of (whole old) ∪ S)) (ap (of_first_shards (length old) first.0) (no_reference message none) ∙ sym (no_reference message none))
 
 pub asked_so : (message : Message) (old new : List NodeState) (answers : List Message)
-    → Receives message old (Ok answers) new
+    → ReceivesAll message old (Ok answers) new
     → IsAnswer (shard_at old 0).id (whole old) message answers
 asked_so message old new answers got = (got.received empty_node.pool).0

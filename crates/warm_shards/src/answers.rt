@@ -6,7 +6,7 @@ ghost use Rattle.warm_peer.specs.Answers.{IsAnswer};
 ghost use Rattle.warm_gossip.specs.declared.fault.NodeFault.TheVariants.{Memory};
 ghost use Rattle.warm_shards.specs.Clauses.{SameShards};
 ghost use Rattle.warm_shards.specs.Digests.{FillsShard};
-ghost use Rattle.warm_shards.specs.Given.{Receives};
+ghost use Rattle.warm_shards.specs.Given.{ReceivesAll};
 ghost use Rattle.warm_shards.specs.Shards.{AreShards, shard_at, whole};
 ghost use Rattle.warm_shards.specs.Visits.{HasEntries, receive_visit};
 
@@ -52,7 +52,7 @@ pub(crate) fn visited<D: PageDevice>(
     requires count { length nodes.old.items ≡ visit.count }
     ensures { (message : Message) → (HasEntries message → ⊥)
         → visit ≡ receive_visit (shard_at nodes.old.items 0).id (length nodes.old.items) message
-        → Receives message nodes.old.items result nodes.new.items }
+        → ReceivesAll message nodes.old.items result nodes.new.items }
 {
     let mut visit = visit;
     go_through(nodes, &mut visit)?;

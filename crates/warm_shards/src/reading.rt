@@ -2,10 +2,10 @@
 ghost use Rattle.std.specs.Prelude.{◌≡◌, ◌≢◌, ◌<◌, ◌≤◌, ℕ, [], if◌then◌else◌, nat_lt};
 ghost use Rattle.std.specs.Prelude.{IfOk, IfSome, None, Some};
 ghost use Rattle.warm_frames.specs.declared.layout.TheConstants.{DIGEST_SIZE};
-ghost use Rattle.warm_shards.specs.Visits.{Compares, VisitState, answered, answers_of, at_each};
+ghost use Rattle.warm_shards.specs.Visits.{ComparesOffers, VisitState, answered, answers_of, at_each};
 ghost use Rattle.warm_shards.specs.Visits.{begun, compares, copy_of, copy_visit, ends, next_shard};
-ghost use Rattle.warm_shards.specs.Visits.{no_offer, offer_of, offer_visit, offering, send_plan};
-ghost use Rattle.warm_shards.specs.VisitReads.{GathersOne, IsPage, IsReading, ReadsOne};
+ghost use Rattle.warm_shards.specs.Visits.{nothing_offered, offer_in, offer_visit, offering, send_plan};
+ghost use Rattle.warm_shards.specs.VisitReads.{GathersOne, IsPageOrNone, IsReadingVisit, ReadsOne};
 ghost use Rattle.warm_shards.specs.VisitReads.{copying_visit, gathered_in};
 ghost use Rattle.warm_shards.specs.VisitReads.{reading_of, sending_visit, waits_for};
 
@@ -47,14 +47,14 @@ pub(crate) struct Copying {
 }
 
 impl Model for Reading {
-    ghost use Rattle.warm_shards.specs.VisitReads.{IsReading, reading_of};
+    ghost use Rattle.warm_shards.specs.VisitReads.{IsReadingVisit, reading_of};
     ghost use Rattle.warm_shards.specs.Visits.{VisitState};
 
     ghost Value = { VisitState };
 
     ghost view = { λ r. reading_of r.id r.count r.task };
 
-    ghost invariant = { λ r. IsReading r.count r.task };
+    ghost invariant = { λ r. IsReadingVisit r.count r.task };
 }
 
 impl Copying {
@@ -74,9 +74,9 @@ impl Copying {
 // The answer to digests, when all shards have offered theirs: the buckets that differ are sent, and
 // then a request for them comes last. Allocation-free.
 fn compared(alloc: Global, gathering: &Gathering, digests: &DigestTable) -> Sending
-    ensures compared { (v : VisitState) → Compares [] (compares digests.now)
+    ensures compared { (v : VisitState) → ComparesOffers [] (compares digests.now)
         (gathered_in gathering.now) v (sending_visit v.id v.count result) }
-    ensures page { IsPage result.after }
+    ensures page { IsPageOrNone result.after }
 {
     let request = differing(digests, &DigestTable::of(gathering.digests));
     // The request is a number of 64 bits.
@@ -124,11 +124,11 @@ fn enter_task<D: PageDevice>(
     task: &mut Task,
     node: &mut Node<D>,
 ) -> Result<(), NodeFault>
-    requires reading { IsReading count task.old }
+    requires reading { IsReadingVisit count task.old }
     requires some { next_shard (reading_of id count task.old) ≢ None }
     ensures read { ReadsOne (reading_of id count task.old) node.old result
         (reading_of id count task.new) node.new }
-    ensures reading { IsReading count task.new }
+    ensures reading { IsReadingVisit count task.new }
 {
     match task {
         Task::Gather(gathering) => {
@@ -149,14 +149,9 @@ fn enter_task<D: PageDevice>(
 
 impl Reading {
     // With no digest yet.
-    fn gathers(
-        alloc: Global,
-        id: ReplicaId,
-        count: usize,
-        waiting: Option<DigestTable>,
-    ) -> Reading
+    fn gathers(alloc: Global, id: ReplicaId, count: usize, waiting: Option<DigestTable>) -> Reading
         requires { 0 < count }
-        ensures { result ≡ begun id count (at_each count offering) no_offer (waits_for waiting) }
+        ensures { result ≡ begun id count (at_each count offering) nothing_offered (waits_for waiting) }
     {
         let gathering = Gathering {
             shard: 0,
@@ -189,18 +184,13 @@ impl Reading {
         digests: DigestTable,
     ) -> Reading
         requires { 0 < count }
-        ensures { result ≡ begun id count (at_each count offering) no_offer (compares digests) }
+        ensures { result ≡ begun id count (at_each count offering) nothing_offered (compares digests) }
     {
         Reading::gathers(alloc, id, count, Some(digests))
     }
 
     /// The requested buckets are sent, each by its shard. Allocation-free.
-    pub(crate) fn sends(
-        alloc: Global,
-        id: ReplicaId,
-        count: usize,
-        request: BucketSet,
-    ) -> Reading
+    pub(crate) fn sends(alloc: Global, id: ReplicaId, count: usize, request: BucketSet) -> Reading
         requires { 0 < count }
         ensures { result ≡ begun id count (send_plan count request) (answered []) ends }
     {
@@ -250,7 +240,7 @@ impl Reading {
 
     /// What all shards offer, once no errand is left.
     pub(crate) fn offer(&self) -> Option<Message>
-        ensures { result ≡ offer_of self.now.id self.now.made }
+        ensures { result ≡ offer_in self.now.id self.now.made }
     {
         let Task::Gather(gathering) = &self.task else {
             return None;

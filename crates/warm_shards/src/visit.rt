@@ -9,7 +9,7 @@ ghost use Rattle.warm_shards.specs.VisitParts.{IsReader, earlier, visit_of};
 ghost use Rattle.warm_shards.specs.declared.visit.Work.TheVariants.{Read};
 ghost use Rattle.warm_shards.specs.Visits.{HasEntered, HasEntries, absorb_visit, answers_of};
 ghost use Rattle.warm_shards.specs.Visits.{copy_of, copy_visit, entries_left, give_visit};
-ghost use Rattle.warm_shards.specs.Visits.{join_visit, kept_of, next_shard, offer_of, offer_visit};
+ghost use Rattle.warm_shards.specs.Visits.{join_visit, kept_of, next_shard, offer_in, offer_visit};
 ghost use Rattle.warm_shards.specs.Visits.{raise_visit, receive_visit, result_of};
 
 use crate::batch_parts::parts_of;
@@ -217,16 +217,22 @@ impl Visit {
     {
         match message {
             Message::Entries {
-                horizon, entries, ..
+                horizon,
+                entries,
+                ..
             } => Visit::entries(alloc, id, count, *horizon, entries.as_slice()),
             Message::Digest {
-                horizon, digests, ..
+                horizon,
+                digests,
+                ..
             } => {
                 let reading = Reading::compares(alloc, id, count, *digests);
                 Ok(Visit::reads(id, count, *horizon, 0, reading))
             }
             Message::Want {
-                horizon, request, ..
+                horizon,
+                request,
+                ..
             } => {
                 let reading = Reading::sends(alloc, id, count, *request);
                 Ok(Visit::reads(id, count, *horizon, 0, reading))
@@ -299,7 +305,7 @@ impl Visit {
 
     /// What the shards offer, of a visit that offers. Allocation-free.
     pub fn offered(&self) -> Option<Message>
-        ensures { result ≡ offer_of self.now.id self.now.made }
+        ensures { result ≡ offer_in self.now.id self.now.made }
     {
         match &self.work {
             Work::Read(reading) => reading.offer(),
