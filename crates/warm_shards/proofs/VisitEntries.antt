@@ -116,14 +116,20 @@ pub enters_raised : (id count time rising shard horizon : ℕ) (work : Work) (ke
 enters_raised id count time rising shard horizon work kept stopped n m lt well goes bytes =
     let v = visit_of id count time rising shard work kept stopped in
     let later = raise_from count time (rising + 1) ++ work_from count work shard in
-    let plan : v.plan ≡ at_shard rising (giving (at_horizon time)) ∷ later = ap (λ es. es ++ work_from count work shard) (raise_here count time rising lt) in
-    ((at_shard rising (giving (at_horizon time)), given horizon, record {
-      ready = well;
-      rest = later;
-      next = plan;
-      says = ((goes.0, bytes), goes.1);
-      takes = ap (onward v later) (keeps_earlier work kept horizon);
-    }), shorter_by_one v (at_shard rising (giving (at_horizon time))) later stopped ends plan well well refl)
+    let plan : v.plan ≡ at_shard rising (giving (at_horizon time)) ∷ later = ap (λ es. es ++ work_from count work shard) (raise_here count time rising lt) in (
+      (
+        at_shard rising (giving (at_horizon time)),
+        given horizon,
+        record {
+          ready = well;
+          rest = later;
+          next = plan;
+          says = ((goes.0, bytes), goes.1);
+          takes = ap (onward v later) (keeps_earlier work kept horizon);
+        },
+      ),
+      shorter_by_one v (at_shard rising (giving (at_horizon time))) later stopped ends plan well well refl,
+    )
 
 -- the plan of a visit whose shards are all raised
 given_plan : (count time rising shard : ℕ) (parts : Parts) → count ≤ rising → shard < count
@@ -145,14 +151,20 @@ enters_refused id count time rising shard parts kept stopped n m valid over lt w
     let v = visit_of id count time rising shard (Give parts) kept stopped in
     let e = at_shard shard (giving (part_at parts shard)) in
     let later = give_from count (part_at parts) (shard + 1) in
-    let plan = given_plan count time rising shard parts over lt (valid.place.1 lt) in
-    ((e, refused, record {
-      ready = well;
-      rest = later;
-      next = plan;
-      says = (valid.place.1 lt, same);
-      takes = refl;
-    }), shorter_stopped v e later plan well)
+    let plan = given_plan count time rising shard parts over lt (valid.place.1 lt) in (
+      (
+        e,
+        refused,
+        record {
+          ready = well;
+          rest = later;
+          next = plan;
+          says = (valid.place.1 lt, same);
+          takes = refl;
+        },
+      ),
+      shorter_stopped v e later plan well,
+    )
 
 -- a node that takes its part in
 pub enters_given : (id count time rising shard first : ℕ) (parts : Parts) (kept : Option ℕ)
@@ -168,11 +180,17 @@ enters_given id count time rising shard first parts kept stopped n m valid over 
     let e = at_shard shard (giving (part_at parts shard)) in
     let later = give_from count (part_at parts) (shard + 1) in
     let plan = given_plan count time rising shard parts over lt (valid.place.1 lt) in
-    let rest : w.plan ≡ later = ap (λ es. es ++ give_from count (part_at parts) first) (raise_end count time rising over) ∙ sym (give_skip count (shard + 1) first parts valid.place.0 from) in
-    ((e, given m.history.horizon, record {
-      ready = well;
-      rest = later;
-      next = plan;
-      says = (is, refl);
-      takes = ap (λ (es : List Errand). let x : VisitState = record v { plan = es } in x) rest;
-    }), subst (λ (es : List Errand). entries_unless stopped es ends < entries_left v) (sym rest) (shorter_by_one v e later stopped ends plan well well refl))
+    let rest : w.plan ≡ later = ap (λ es. es ++ give_from count (part_at parts) first) (raise_end count time rising over) ∙ sym (give_skip count (shard + 1) first parts valid.place.0 from) in (
+      (
+        e,
+        given m.history.horizon,
+        record {
+          ready = well;
+          rest = later;
+          next = plan;
+          says = (is, refl);
+          takes = ap (λ (es : List Errand). let x : VisitState = record v { plan = es } in x) rest;
+        },
+      ),
+      subst (λ (es : List Errand). entries_unless stopped es ends < entries_left v) (sym rest) (shorter_by_one v e later stopped ends plan well well refl),
+    )

@@ -42,4 +42,3 @@ pub use message_parts::{part_of_entries, part_of_message};
 pub use pool_calls::ShardSlot;
 pub use shards::{Shards, frames_of_shard, is_shard_count, shard_of};
 pub use visit::Visit;
-

@@ -2,8 +2,8 @@
 ghost use Rattle.std.specs.Prelude.{◌≡◌, ◌≢◌, ◌<◌, ◌≤◌, ℕ, IfSome, None};
 ghost use Rattle.warm_frames.specs.declared.layout.TheConstants.{DIGEST_SIZE};
 ghost use Rattle.warm_shards.specs.Visits.{answered, at_each, begun, compares, copy_visit, ends};
-ghost use Rattle.warm_shards.specs.Visits.{next_shard, no_offer, offer_visit, offering, send_plan};
-ghost use Rattle.warm_shards.specs.VisitReads.{IsReading, ReadsOne, copying_visit};
+ghost use Rattle.warm_shards.specs.Visits.{next_shard, nothing_offered, offer_visit, offering, send_plan};
+ghost use Rattle.warm_shards.specs.VisitReads.{IsReadingVisit, ReadsOne, copying_visit};
 ghost use Rattle.warm_shards.specs.VisitReads.{gathering_visit, reading_of};
 
 use crate::gathering::Gathering;
@@ -44,14 +44,14 @@ pub(crate) struct Copying {
 }
 
 impl Model for Reading {
-    ghost use Rattle.warm_shards.specs.VisitReads.{IsReading, reading_of};
+    ghost use Rattle.warm_shards.specs.VisitReads.{IsReadingVisit, reading_of};
     ghost use Rattle.warm_shards.specs.Visits.{VisitState};
 
     ghost Value = { VisitState };
 
     ghost view = { λ r. reading_of r.id r.count r.task };
 
-    ghost invariant = { λ r. IsReading r.count r.task };
+    ghost invariant = { λ r. IsReadingVisit r.count r.task };
 }
 
 impl Copying {

@@ -2,7 +2,7 @@
 ghost use Rattle.std.specs.Prelude.{◌≡◌, ◌↔◌, ℕ, IsTrue, OnErr, OnOk, Some};
 ghost use Rattle.warm_frames.specs.Limits.{entries_in};
 ghost use Rattle.warm_peer.specs.Chunks.{last_page};
-ghost use Rattle.warm_shards.specs.VisitReads.{HasNoEntries, IsPage, ReadsOne, sending_visit};
+ghost use Rattle.warm_shards.specs.VisitReads.{HasNoEntries, IsPageOrNone, ReadsOne, sending_visit};
 ghost use Rattle.warm_shards.specs.Visits.{answered, with_message};
 
 use std::alloc::AllocError;
@@ -36,7 +36,7 @@ pub(crate) struct Sending {
 // The page of the last entry of a message.
 fn last_page_of(message: &Message) -> Option<PageId>
     ensures value { result ≡ last_page (entries_in message.now) }
-    ensures page { IsPage result }
+    ensures page { IsPageOrNone result }
 {
     let Message::Entries { entries, .. } = message else {
         return None;
@@ -80,8 +80,8 @@ impl Sending {
         bucket: Bucket,
     ) -> Result<(), NodeFault>
         requires bucket { self.old.bucket ≡ Some bucket }
-        requires page { IsPage self.old.after }
-        ensures page { IsPage self.new.after }
+        requires page { IsPageOrNone self.old.after }
+        ensures page { IsPageOrNone self.new.after }
         ensures sent { (id count : ℕ) → ReadsOne (sending_visit id count self.old) node.now result
             (sending_visit id count self.new) node.now }
     {
