@@ -1,7 +1,7 @@
 -- What a visit becomes as it enters a node.
 use Rattle.std.proofs.Common.{◌≡◌, ◌≢◌, inl, inr, ℕ, ◌+◌, ◌<◌, ◌≤◌, Bool, true, false, List, [], ◌∷◌, ◌++◌, length, refl, sym, ap, subst, ◌∙◌, arith}
-use Rattle.std.specs.Prelude.{None, Option, Some}
-use Rattle.std.proofs.lemmas.Bool.{cases_eq}
+use Rattle.std.specs.Prelude.{IfSome, None, Option, Some, if◌then◌else◌, nat_lt}
+use Rattle.std.proofs.lemmas.Bool.{cases_eq, ltb-false, ltb-true}
 use Rattle.warm_stamps.specs.declared.PageId.{PageId}
 use Rattle.warm_history.specs.ReferenceSets.{ReferenceSet}
 use Rattle.warm_pool.specs.Unchanged.{KeepsBytes}
@@ -15,8 +15,8 @@ use Rattle.warm_shards.specs.declared.visit.Work.{Work}
 use Rattle.warm_shards.specs.declared.visit.Work.TheVariants.{Give, Raise, Read}
 use Rattle.warm_shards.specs.VisitParts.{IsFirstPart, IsPlace, IsReader, IsVisit, after_of, earlier, give_from, made_of, part_at, parts_count, raise_from, visit_of, work_from}
 use Rattle.warm_shards.specs.VisitReads.{HasReadOne, IsReadMade}
-use Rattle.warm_shards.specs.Visits.{After, Ask, Enters, Errand, HasEntered, Made, Said, Takes, VisitState, answered, at_shard, copying, ends, entries_for, entries_for_all, entries_left, entries_unless, gathered, given, giving, joined, keeps, next_shard, offering, onward, refused, sending, shard_next}
-use Rattle.warm_shards.proofs.VisitPlans.{give_end, give_here, give_skip, raise_end, raise_here}
+use Rattle.warm_shards.specs.Visits.{After, Ask, Enters, Errand, HasEntered, Made, Said, Takes, VisitState, answered, answers_of, at_shard, begun, copy_of, copying, ends, entries_for, entries_for_all, entries_left, entries_unless, gathered, given, giving, joined, keeps, next_shard, offer_in, offering, onward, raise_plan, refused, sending, shard_next}
+use Rattle.warm_shards.proofs.VisitPlans.{give_end, give_here, give_skip, raise_begun, raise_end, raise_here}
 
 -- ---- the next shard
 
@@ -243,3 +243,53 @@ refused_read id count time rising shard v w kept stopped n m is over well entere
     let some : 0 < entries_left v = shorter_stopped v entered.0 entered.2.rest entered.2.next entered.2.ready in
     subst (λ (x : VisitState). HasEntered x n (visit_of id count time rising shard (Read w) kept true) m × (0 < entries_left x)) (sym before)
     (subst (λ (y : VisitState). HasEntered v n y m) (sym after) entered, some)
+
+-- ---- what a visit says of itself
+
+-- the next shard that has a part
+pub part_next : (count shard : ℕ) (parts : Parts) → shard ≤ count
+    → (shard < count → (part_at parts shard).given ≢ [])
+    → (if nat_lt shard count then Some shard else None)
+    ≡ shard_next false (work_from count (Give parts) shard)
+part_next count shard parts within some = cases (nat_lt shard count) refl
+  where
+    cases : (b : Bool) → nat_lt shard count ≡ b
+        → (if b then Some shard else None) ≡ shard_next false (work_from count (Give parts) shard)
+    cases true is =
+        let lt : shard < count = ltb-true shard count is in
+        sym (next_part count shard parts lt (some lt))
+    cases false is = sym (no_part count shard parts (ltb-false shard count is))
+
+pub next_below : (count shard : ℕ) → IfSome (if nat_lt shard count then Some shard else None) (λ x. x < count)
+next_below count shard = cases (nat_lt shard count) refl
+  where
+    cases : (b : Bool) → nat_lt shard count ≡ b → IfSome (if b then Some shard else None) (λ x. x < count)
+    cases true is = ltb-true shard count is
+    cases false is = tt
+
+-- a visit that reads, and raises all shards first
+pub reads_begun : (id count time : ℕ) (plan : List Errand) (made : Made) (after : After)
+    → visit_of id count time 0 count (Read (begun id count plan made after)) None false
+    ≡ begun id count (raise_plan count time ++ plan) made after
+reads_begun id count time plan made after =
+    ap (λ es. begun id count (es ++ plan) made after) (raise_begun count time)
+
+-- one that raises none
+pub reads_only : (id count time : ℕ) (reading v : VisitState) → reading ≡ v → IsReader id count v
+    → visit_of id count time count count (Read reading) None false ≡ v
+reads_only id count time reading v is reader =
+    ap (λ (r : VisitState). visit_of id count time count count (Read r) None false) is
+    ∙ read_is id count time count count v None false reader (omega arith) (sym reader.going)
+
+pub reader_of : (id count : ℕ) (plan : List Errand) (made : Made) (after : After) → IsReadMade made
+    → IsReader id count (begun id count plan made after)
+reader_of id count plan made after read = record { id = refl; count = refl; going = refl; made = read }
+
+-- a visit that does not read has no answer, no offer and no copy
+pub gives_none : (id count shard : ℕ) (work : Work) (kept : Option ℕ)
+    → ((reading : VisitState) → work ≡ Read reading → ⊥)
+    → (answers_of (made_of work kept) (after_of work) ≡ []) × (offer_in id (made_of work kept) ≡ None)
+    × (copy_of (made_of work kept) ≡ None)
+gives_none id count shard Raise kept other = (refl, refl, refl)
+gives_none id count shard (Give parts) kept other = (refl, refl, refl)
+gives_none id count shard (Read reading) kept other = absurd (other reading refl)

@@ -286,7 +286,8 @@ impl Visit {
     {
         match self.work {
             Work::Raise => self.kept,
-            _ => None,
+            Work::Give(_) => None,
+            Work::Read(_) => None,
         }
     }
 
@@ -298,8 +299,9 @@ impl Visit {
     {
         let Visit { work, .. } = self;
         match work {
+            Work::Raise => Ok(MessageList::of(Vec::new(alloc))),
+            Work::Give(_) => Ok(MessageList::of(Vec::new(alloc))),
             Work::Read(reading) => Ok(MessageList::of(reading.into_answers()?)),
-            _ => Ok(MessageList::of(Vec::new(alloc))),
         }
     }
 
@@ -308,8 +310,9 @@ impl Visit {
         ensures { result ≡ offer_in self.now.id self.now.made }
     {
         match &self.work {
+            Work::Raise => None,
+            Work::Give(_) => None,
             Work::Read(reading) => reading.offer(),
-            _ => None,
         }
     }
 
@@ -319,8 +322,9 @@ impl Visit {
     {
         let Visit { work, .. } = self;
         match work {
+            Work::Raise => None,
+            Work::Give(_) => None,
             Work::Read(reading) => reading.into_history(),
-            _ => None,
         }
     }
 
