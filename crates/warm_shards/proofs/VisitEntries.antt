@@ -1,6 +1,6 @@
 -- What a visit becomes as it enters a node.
 use Rattle.std.proofs.Common.{◌≡◌, ◌≢◌, inl, inr, ℕ, ◌+◌, ◌<◌, ◌≤◌, Bool, true, false, List, [], ◌∷◌, ◌++◌, length, refl, sym, ap, subst, ◌∙◌, arith}
-use Rattle.std.specs.Prelude.{IfSome, None, Option, Some, if◌then◌else◌, nat_lt}
+use Rattle.std.specs.Prelude.{IfSome, None, Ok, OnErr, Option, Err, Result, Some, if◌then◌else◌, nat_lt}
 use Rattle.std.proofs.lemmas.Bool.{cases_eq, ltb-false, ltb-true}
 use Rattle.warm_stamps.specs.declared.PageId.{PageId}
 use Rattle.warm_history.specs.ReferenceSets.{ReferenceSet}
@@ -293,3 +293,7 @@ pub gives_none : (id count shard : ℕ) (work : Work) (kept : Option ℕ)
 gives_none id count shard Raise kept other = (refl, refl, refl)
 gives_none id count shard (Give parts) kept other = (refl, refl, refl)
 gives_none id count shard (Read reading) kept other = absurd (other reading refl)
+
+pub any_err : {A E P : Type 0} (result : Result A E) → P → OnErr result P
+any_err (Ok given) is = tt
+any_err (Err why) is = is

@@ -352,7 +352,7 @@ impl Visit {
                 self.shard = parts.first(self.shard + 1);
             }
             Work::Read(reading) => {
-                if let Err(_why) = reading.enter(node) {
+                if let Err(_refused) = reading.enter(node) {
                     self.stopped = true;
                 }
             }
