@@ -1,9 +1,9 @@
 -- Digests and requests that shards receive by a visit.
 use Rattle.std.proofs.Common.{◌≡◌, inl, ℕ, ◌<◌, ◌≤◌, Bool, true, false, List, [], length, Result, Ok, Err, max, refl, sym, ap, subst, ◌∙◌, arith}
-use Rattle.std.specs.Prelude.{None, nat_lt}
+use Rattle.std.specs.Prelude.{None, Some, nat_lt}
 use Rattle.std.proofs.lemmas.Bool.{ltb-false, ltb-true}
 use Rattle.warm_history.specs.declared.hist.Entry.{Entry}
-use Rattle.warm_history.specs.ReferenceSets.{ReferenceSet, ◌∪◌}
+use Rattle.warm_history.specs.ReferenceSets.{ReferenceSet, set_of_list, ◌∪◌}
 use Rattle.warm_history.specs.Histories.{HistoryView, StandsFor, history, references_of}
 use Rattle.warm_history.proofs.HistoryLemmas.{IsHistory-history}
 use Rattle.warm_history.proofs.JoinLemmas.{history_of_own_references, raised_to_no_later}
@@ -12,8 +12,8 @@ use Rattle.warm_frames.specs.declared.message.Message.{Message}
 use Rattle.warm_frames.specs.declared.message.Message.TheVariants.{Digest, Entries, Want}
 use Rattle.warm_gossip.specs.declared.fault.NodeFault.TheVariants.{Memory}
 use Rattle.warm_gossip.specs.declared.fault.NodeFault.{NodeFault}
-use Rattle.warm_gossip.specs.declared.call.Call.TheVariants.{Receive}
-use Rattle.warm_gossip.specs.declared.call.Reply.TheVariants.{Answers}
+use Rattle.warm_gossip.specs.declared.call.Call.TheVariants.{Offer, Receive}
+use Rattle.warm_gossip.specs.declared.call.Reply.TheVariants.{Answers, Refused, Sent}
 use Rattle.warm_gossip.specs.State.{NodeState, NodeView, empty_node, node_view}
 use Rattle.warm_pool.specs.View.{PoolView, view_of}
 use Rattle.warm_peer.specs.Answers.{IsAnswer, refs_in}
@@ -21,7 +21,7 @@ use Rattle.warm_shards.specs.Clauses.{KeepPools, SameShards, TakesInFirst, Toget
 use Rattle.warm_shards.specs.Given.{Gives, ReceivesAll, at_horizon}
 use Rattle.warm_shards.specs.Shards.{AreShards, held, of_first_shards, of_shard, shard_at, whole}
 use Rattle.warm_shards.specs.VisitLaws.{EndsAlone, GoesAlone, ReceivesAlone}
-use Rattle.warm_shards.specs.Visits.{HasEntries, VisitState, answers_of, next_shard, receive_visit, result_of}
+use Rattle.warm_shards.specs.Visits.{HasEntries, VisitState, answers_of, next_shard, offer_in, offer_visit, receive_visit, result_of}
 use Rattle.warm_shards.proofs.AreShardsLemmas.{some_shards}
 use Rattle.warm_shards.proofs.GivenLemmas.{beyond}
 use Rattle.warm_shards.proofs.StandsForLemmas.{shard_stands}
@@ -190,3 +190,38 @@ pub asked_so : (message : Message) (old new : List NodeState) (answers : List Me
     → ReceivesAll message old (Ok answers) new
     → IsAnswer (shard_at old 0).id (whole old) message answers
 asked_so message old new answers got = (got.received empty_node.pool).0
+
+-- ---- offers
+
+-- how a visit ends by which shards offered
+abbrev Offers : List NodeState → VisitState → List NodeState → Type 0
+Offers old w new = EndsAlone (λ w new. (offer : Message) × (offer_in w.id w.made ≡ Some offer) × Together old Offer (Sent offer) new) (set_of_list []) old w new
+
+pub offers_so : (old new : List NodeState) (v w : VisitState) → AreShards old
+    → v ≡ offer_visit (shard_at old 0).id (length old) → GoesAlone v old w new
+    → next_shard w ≡ None → Offers old w new
+offers_so old new v w are is gone over =
+    reading_is_one_node.offers old new w are (subst (λ (x : VisitState). GoesAlone x old w new) is gone) over
+
+pub offers_message : (old new : List NodeState) (w : VisitState) (offer : Message)
+    → Offers old w new → w.stopped ≡ false → Some offer ≡ offer_in w.id w.made
+    → Together old Offer (Sent offer) new
+offers_message old new w offer ends well is =
+    let done = ends.done well in
+    let both : Some offer ≡ Some done.0 = is ∙ done.1 in
+    let same : offer ≡ done.0 = cc in
+    subst (λ (m : Message). Together old Offer (Sent m) new) (sym same) done.2
+
+pub offers_some : (old new : List NodeState) (w : VisitState) → Offers old w new
+    → w.stopped ≡ false → None ≡ offer_in w.id w.made → ⊥
+offers_some old new w ends well is =
+    let done = ends.done well in
+    let no : None ≡ Some done.0 = is ∙ done.1 in
+    absurd (cc)
+
+pub offers_refused : (old new : List NodeState) (w : VisitState) (why : NodeFault) → Offers old w new
+    → w.stopped ≡ true → why ≡ Memory → Together old Offer (Refused why) new
+offers_refused old new w why ends stopped memory =
+    let first = ends.stopped stopped in
+    let known : whole new ≡ whole old = first.3 ∙ raised_to_no_later (whole old) 0 (IsHistory-history (held old)) (omega arith) in
+    subst (λ (f : NodeFault). Together old Offer (Refused f) new) (sym memory) (λ pool. (λ i. record { id = ends.id i; history = known i; pool = pool }))

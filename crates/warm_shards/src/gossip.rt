@@ -11,8 +11,7 @@ ghost use Rattle.warm_shards.specs.Clauses.{Together, TogetherAnswered};
 ghost use Rattle.warm_shards.specs.Given.{Gives, ReceivesAll};
 ghost use Rattle.warm_shards.specs.Shards.{AreShards, shard_at, whole};
 
-use crate::answers::{answered, visited};
-use crate::go_through::go_through;
+use crate::answers::{answered, offer_of_all, visited};
 use crate::history_calls::raise_all;
 use crate::joining::join_parts;
 use crate::shards::Shards;
@@ -107,12 +106,7 @@ impl<D: PageDevice> Shards<D> {
         ensures step { TogetherAnswered self.old Offer Sent result self.new }
         ensures pools { KeepPools self.old self.new }
     {
-        let mut visit = Visit::offer(self.alloc, self.nodes[0].id(), self.nodes.len());
-        go_through(&mut self.nodes, &mut visit)?;
-        let Some(offer) = visit.offered() else {
-            unreachable!()
-        };
-        Ok(offer)
+        offer_of_all(self.alloc, &mut self.nodes)
     }
 
     /// The messages with which all shards together would answer this one, as
