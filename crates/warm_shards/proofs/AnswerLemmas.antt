@@ -52,8 +52,6 @@ digests_next old ns count k n d digests table new are long lt at same is fills s
     ap (λ (t : List (List ℕ)). digest_at t bucket) (is ∙ ap (λ (h : HistoryView). digests_of (entries_of h)) (was_history old ns count k n d long lt at same))
     ∙ digest_whole old k bucket are (omega arith) low (ap (λ (x : ℕ). bucket % x) (sym long) ∙ here)) so_far
 
--- ---- buckets in messages
-
 -- ---- what is sent of one bucket
 
 sent_same : (ns : List NodeState) (j bucket : ℕ) (after : Option PageId) → AreShards ns
@@ -121,8 +119,6 @@ sends_since ns j bucket since after n (Ok x) are lt is at sent more =
       more = subst (λ T. IsTrue x.more ↔ T) (ap (λ (y : NodeState). HasMoreSince y.history bucket since after) at ∙ more_same ns j bucket since after are lt is) more;
       held = subst (BringsHeld (whole ns)) (sym message) (held_since ns bucket since after (shard_at ns 0).id);
     }
-
--- ---- an answer to digests
 
 -- ---- an offer
 
