@@ -25,7 +25,7 @@ use Rattle.warm_peer.specs.Chunks.{last_page}
 use Rattle.warm_peer.specs.Since.{HasMoreSince, sent_since}
 use Rattle.warm_gossip.specs.State.{NodeState}
 use Rattle.warm_shards.specs.declared.sending.Sending.{Sending}
-use Rattle.warm_shards.specs.VisitReads.{HasRead, IsPage, asks_for, send_from, sending_visit}
+use Rattle.warm_shards.specs.VisitReads.{HasReadOne, IsPageOrNone, asks_for, send_from, sending_visit}
 use Rattle.warm_shards.specs.Visits.{After, Errand, HasEntered, answered, at_shard, begun, entries_after, entries_for, entries_for_all, goes_on, pages_after, refused, send_plan, sending, sent, with_message}
 use Rattle.warm_shards.proofs.Calls.{bytes_same}
 use Rattle.warm_shards.proofs.VisitReadsPortions.{last_of_first, left_of_bucket, portion_is}
@@ -69,7 +69,7 @@ pages_rise p q fits less = cases (nat_cmp p.dev q.dev) refl less
     cases Greater is lt = let never : false ≡ true = lt in absurd (cc)
 
 -- fewer pages are after a later one
-fewer_pages : (after : Option PageId) (q : PageId) → IsPage after → comes_after after q ≡ true
+fewer_pages : (after : Option PageId) (q : PageId) → IsPageOrNone after → comes_after after q ≡ true
     → pages_after (Some q) < pages_after after
 fewer_pages None q page later = omega arith
 fewer_pages (Some p) q page later =
@@ -119,8 +119,8 @@ pub sends_more : (id count bucket : ℕ) (s t : Sending) (n : NodeState) (messag
     → message ≡ sent_since n.id n.history bucket 0 s.after
     → (IsTrue true ↔ HasMoreSince n.history bucket 0 s.after)
     → answered t.messages.items ≡ with_message (answered s.messages.items) message
-    → t.after ≡ last_page (entries_in message) → IsHistory n.history → IsPage s.after
-    → HasRead (sending_visit id count s) n (sending_visit id count t) n
+    → t.after ≡ last_page (entries_in message) → IsHistory n.history → IsPageOrNone s.after
+    → HasReadOne (sending_visit id count s) n (sending_visit id count t) n
 sends_more id count bucket s t n message at bucket_is later want is follow made last valid page =
     let i = bucket % count in
     let es = left_of_bucket n.history bucket s.after in
@@ -154,7 +154,7 @@ pub sends_last : (id count bucket : ℕ) (s t : Sending) (n : NodeState) (messag
     → t.after ≡ None → message ≡ sent_since n.id n.history bucket 0 s.after
     → (IsTrue false ↔ HasMoreSince n.history bucket 0 s.after)
     → answered t.messages.items ≡ with_message (answered s.messages.items) message
-    → HasRead (sending_visit id count s) n (sending_visit id count t) n
+    → HasReadOne (sending_visit id count s) n (sending_visit id count t) n
 sends_last id count bucket s t n message at want steps none is follow made =
     let i = bucket % count in
     let rest = later_errands count s.later in

@@ -3,10 +3,10 @@ ghost use Rattle.std.specs.Prelude.{◌≡◌, ◌≢◌, ◌<◌, ◌≤◌, �
 ghost use Rattle.std.specs.Prelude.{IfNone, IfOk, IfSome, None, Some};
 ghost use Rattle.warm_frames.specs.declared.layout.TheConstants.{DIGEST_SIZE};
 ghost use Rattle.warm_shards.specs.VisitMessages.{final_message, first_message, without_message};
-ghost use Rattle.warm_shards.specs.Visits.{Compares, VisitState, answered, answers_of, at_each};
+ghost use Rattle.warm_shards.specs.Visits.{ComparesOffers, VisitState, answered, answers_of, at_each};
 ghost use Rattle.warm_shards.specs.Visits.{begun, compares, copy_of, copy_visit, ends, next_shard};
-ghost use Rattle.warm_shards.specs.Visits.{no_offer, offer_of, offer_visit, offering, send_plan};
-ghost use Rattle.warm_shards.specs.VisitReads.{GathersOne, IsPage, IsReading, ReadsOne};
+ghost use Rattle.warm_shards.specs.Visits.{nothing_offered, offer_in, offer_visit, offering, send_plan};
+ghost use Rattle.warm_shards.specs.VisitReads.{GathersOne, IsPageOrNone, IsReadingVisit, ReadsOne};
 ghost use Rattle.warm_shards.specs.VisitReads.{copying_visit, gathered_in};
 ghost use Rattle.warm_shards.specs.VisitReads.{reading_of, sending_visit, waits_for};
 
@@ -48,14 +48,14 @@ pub(crate) struct Copying {
 }
 
 impl Model for Reading {
-    ghost use Rattle.warm_shards.specs.VisitReads.{IsReading, reading_of};
+    ghost use Rattle.warm_shards.specs.VisitReads.{IsReadingVisit, reading_of};
     ghost use Rattle.warm_shards.specs.Visits.{VisitState};
 
     ghost Value = { VisitState };
 
     ghost view = { λ r. reading_of r.id r.count r.task };
 
-    ghost invariant = { λ r. IsReading r.count r.task };
+    ghost invariant = { λ r. IsReadingVisit r.count r.task };
 }
 
 impl Copying {
@@ -75,9 +75,9 @@ impl Copying {
 // The answer to digests, when all shards have offered theirs: the buckets that differ are sent, and
 // then a request for them comes last. Allocation-free.
 fn compared(alloc: Global, gathering: &Gathering, digests: &DigestTable) -> Sending
-    ensures compared { (v : VisitState) → Compares [] (compares digests.now)
+    ensures compared { (v : VisitState) → ComparesOffers [] (compares digests.now)
         (gathered_in gathering.now) v (sending_visit v.id v.count result) }
-    ensures page { IsPage result.after }
+    ensures page { IsPageOrNone result.after }
 {
     let request = differing(digests, &DigestTable::of(gathering.digests));
     // The request is a number of 64 bits.
@@ -125,11 +125,11 @@ fn enter_task<D: PageDevice>(
     task: &mut Task,
     node: &mut Node<D>,
 ) -> Result<(), NodeFault>
-    requires reading { IsReading count task.old }
+    requires reading { IsReadingVisit count task.old }
     requires some { next_shard (reading_of id count task.old) ≢ None }
     ensures read { ReadsOne (reading_of id count task.old) node.old result
         (reading_of id count task.new) node.new }
-    ensures reading { IsReading count task.new }
+    ensures reading { IsReadingVisit count task.new }
 {
     match task {
         Task::Gather(gathering) => {
@@ -152,7 +152,7 @@ impl Reading {
     // With no digest yet.
     fn gathers(alloc: Global, id: ReplicaId, count: usize, waiting: Option<DigestTable>) -> Reading
         requires { 0 < count }
-        ensures { result ≡ begun id count (at_each count offering) no_offer (waits_for waiting) }
+        ensures { result ≡ begun id count (at_each count offering) nothing_offered (waits_for waiting) }
     {
         let gathering = Gathering {
             shard: 0,
@@ -185,7 +185,7 @@ impl Reading {
         digests: DigestTable,
     ) -> Reading
         requires { 0 < count }
-        ensures { result ≡ begun id count (at_each count offering) no_offer (compares digests) }
+        ensures { result ≡ begun id count (at_each count offering) nothing_offered (compares digests) }
     {
         Reading::gathers(alloc, id, count, Some(digests))
     }
@@ -241,7 +241,7 @@ impl Reading {
 
     /// What all shards offer, once no errand is left.
     pub(crate) fn offer(&self) -> Option<Message>
-        ensures { result ≡ offer_of self.now.id self.now.made }
+        ensures { result ≡ offer_in self.now.id self.now.made }
     {
         let Task::Gather(gathering) = &self.task else {
             return None;
@@ -351,7 +351,7 @@ pub(crate) fn below(shard: usize, count: usize) -> Option<usize>
 fn pass_in(task: &mut Task)
     ensures value { (id count : ℕ) → reading_of id count task.new
         ≡ without_message (reading_of id count task.old) }
-    ensures reading { (count : ℕ) → IsReading count task.old → IsReading count task.new }
+    ensures reading { (count : ℕ) → IsReadingVisit count task.old → IsReadingVisit count task.new }
 {
     if let Task::Send(sending) = task {
         sending.pass();

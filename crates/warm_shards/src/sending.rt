@@ -2,7 +2,7 @@
 ghost use Rattle.std.specs.Prelude.{◌≡◌, ◌↔◌, ℕ, [], IfOk, IsTrue, OnErr, OnOk, Some};
 ghost use Rattle.warm_frames.specs.Limits.{entries_in};
 ghost use Rattle.warm_peer.specs.Chunks.{last_page};
-ghost use Rattle.warm_shards.specs.VisitReads.{HasNoEntries, IsPage, ReadsOne, asks_for};
+ghost use Rattle.warm_shards.specs.VisitReads.{HasNoEntries, IsPageOrNone, ReadsOne, asks_for};
 ghost use Rattle.warm_shards.specs.VisitReads.{sending_visit};
 ghost use Rattle.warm_shards.specs.VisitMessages.{final_message, without_message};
 ghost use Rattle.warm_shards.specs.Visits.{answered, answers_of, begun, send_plan, with_message};
@@ -38,7 +38,7 @@ pub(crate) struct Sending {
 // The page of the last entry of a message.
 fn last_page_of(message: &Message) -> Option<PageId>
     ensures value { result ≡ last_page (entries_in message.now) }
-    ensures page { IsPage result }
+    ensures page { IsPageOrNone result }
 {
     let Message::Entries { entries, .. } = message else {
         return None;
@@ -77,7 +77,7 @@ impl Sending {
     pub(crate) fn of(alloc: Global, request: BucketSet, want: Option<Wanted>) -> Sending
         ensures sends { (id count : ℕ) → sending_visit id count result
             ≡ begun id count (send_plan count request) (answered []) (asks_for id want) }
-        ensures page { IsPage result.after }
+        ensures page { IsPageOrNone result.after }
     {
         let mut later = request.iter();
         let bucket = later.next();
@@ -99,8 +99,8 @@ impl Sending {
         bucket: Bucket,
     ) -> Result<(), NodeFault>
         requires bucket { self.old.bucket ≡ Some bucket }
-        requires page { IsPage self.old.after }
-        ensures page { IsPage self.new.after }
+        requires page { IsPageOrNone self.old.after }
+        ensures page { IsPageOrNone self.new.after }
         ensures sent { (id count : ℕ) → ReadsOne (sending_visit id count self.old) node.now result
             (sending_visit id count self.new) node.now }
     {

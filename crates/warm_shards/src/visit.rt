@@ -9,7 +9,7 @@ ghost use Rattle.warm_shards.specs.VisitParts.{IsReader, earlier, visit_of};
 ghost use Rattle.warm_shards.specs.declared.visit.Work.TheVariants.{Read};
 ghost use Rattle.warm_shards.specs.Visits.{HasEntered, HasEntries, absorb_visit, answers_of};
 ghost use Rattle.warm_shards.specs.Visits.{copy_of, copy_visit, entries_left, give_visit};
-ghost use Rattle.warm_shards.specs.Visits.{join_visit, kept_of, next_shard, offer_of, offer_visit};
+ghost use Rattle.warm_shards.specs.Visits.{join_visit, kept_of, next_shard, offer_in, offer_visit};
 ghost use Rattle.warm_shards.specs.Visits.{raise_visit, receive_visit, result_of};
 
 use crate::batch_parts::parts_of;
@@ -286,7 +286,8 @@ impl Visit {
     {
         match self.work {
             Work::Raise => self.kept,
-            _ => None,
+            Work::Give(_) => None,
+            Work::Read(_) => None,
         }
     }
 
@@ -298,18 +299,20 @@ impl Visit {
     {
         let Visit { work, .. } = self;
         match work {
+            Work::Raise => Ok(MessageList::of(Vec::new(alloc))),
+            Work::Give(_) => Ok(MessageList::of(Vec::new(alloc))),
             Work::Read(reading) => Ok(MessageList::of(reading.into_answers()?)),
-            _ => Ok(MessageList::of(Vec::new(alloc))),
         }
     }
 
     /// What the shards offer, of a visit that offers. Allocation-free.
     pub fn offered(&self) -> Option<Message>
-        ensures { result ≡ offer_of self.now.id self.now.made }
+        ensures { result ≡ offer_in self.now.id self.now.made }
     {
         match &self.work {
+            Work::Raise => None,
+            Work::Give(_) => None,
             Work::Read(reading) => reading.offer(),
-            _ => None,
         }
     }
 
@@ -319,8 +322,9 @@ impl Visit {
     {
         let Visit { work, .. } = self;
         match work {
+            Work::Raise => None,
+            Work::Give(_) => None,
             Work::Read(reading) => reading.into_history(),
-            _ => None,
         }
     }
 
@@ -348,7 +352,7 @@ impl Visit {
                 self.shard = parts.first(self.shard + 1);
             }
             Work::Read(reading) => {
-                if let Err(_why) = reading.enter(node) {
+                if let Err(_refused) = reading.enter(node) {
                     self.stopped = true;
                 }
             }

@@ -5,7 +5,7 @@ use Rattle.warm_shards.specs.declared.gathering.Gathering.{Gathering}
 use Rattle.warm_shards.specs.declared.reading.Task.{Task}
 use Rattle.warm_shards.specs.declared.reading.Task.TheVariants.{Gather}
 use Rattle.warm_shards.specs.declared.sending.Sending.{Sending}
-use Rattle.warm_shards.specs.VisitReads.{GathersOne, HasRead, IsReading, ReadsOne, gathering_visit, reading_of, sending_visit}
+use Rattle.warm_shards.specs.VisitReads.{GathersOne, HasReadOne, IsReadingVisit, ReadsOne, gathering_visit, reading_of, sending_visit}
 use Rattle.warm_shards.proofs.VisitReadsTasks.{none_if}
 use Rattle.warm_shards.proofs.reading.enter_task.Goals as goal
 
@@ -28,7 +28,7 @@ pub returns-in_err-sending-in-Gather-clause-reading :
 returns-in_err-sending-in-Gather-clause-reading g c =
     let count = c.args.count in
     let refused = c.in_err-sending-in-Gather.ensures c.args.id in
-    subst (IsReading count) (c.in-Gather.is ∙ ap Gather (sym refused.0)) c.requires.reading
+    subst (IsReadingVisit count) (c.in-Gather.is ∙ ap Gather (sym refused.0)) c.requires.reading
 
 pub returns-in-Some-clause-read : goal.returns-in-Some-clause-read
 returns-in-Some-clause-read g c =
@@ -37,7 +37,7 @@ returns-in-Some-clause-read g c =
     let n = c.args.node.now in
     let m = c.gather.new.node in
     let gathers = subst (λ (x : Option Sending). GathersOne id count c.in-Gather.gathering n (Ok x) c.gather.new.gathering m) c.in-Some.is (c.in_ok-sending-in-Gather.ensures id) in
-    subst (λ (t : Task). HasRead (reading_of id count t) n (sending_visit id count c.in-Some.sending) m) (sym c.in-Gather.is) gathers.0
+    subst (λ (t : Task). HasReadOne (reading_of id count t) n (sending_visit id count c.in-Some.sending) m) (sym c.in-Gather.is) gathers.0
 
 pub returns-in_default-clause-read : goal.returns-in_default-clause-read
 returns-in_default-clause-read g c =
@@ -47,7 +47,7 @@ returns-in_default-clause-read g c =
     let m = c.gather.new.node in
     let none = none_if c.in_ok-sending-in-Gather.field-0 c.in_default.not-Some in
     let gathers = subst (λ (x : Option Sending). GathersOne id count c.in-Gather.gathering n (Ok x) c.gather.new.gathering m) none (c.in_ok-sending-in-Gather.ensures id) in
-    subst (λ (t : Task). HasRead (reading_of id count t) n (gathering_visit id count c.gather.new.gathering) m) (sym c.in-Gather.is) gathers.0
+    subst (λ (t : Task). HasReadOne (reading_of id count t) n (gathering_visit id count c.gather.new.gathering) m) (sym c.in-Gather.is) gathers.0
 
 pub returns-in_default-clause-reading : goal.returns-in_default-clause-reading
 returns-in_default-clause-reading g c =
