@@ -1,28 +1,11 @@
 -- A message that is passed: what becomes of a visit that reads.
 use Rattle.std.proofs.Common.{◌≡◌, ℕ, Bool, [], ◌∷◌, Option, refl}
 use Rattle.warm_shards.specs.declared.visit.Work.{Work}
-use Rattle.warm_shards.specs.declared.visit.Work.TheVariants.{Give, Raise, Read}
+use Rattle.warm_shards.specs.declared.visit.Work.TheVariants.{Read}
 use Rattle.warm_shards.specs.VisitMessages.{without_message, without_of}
-use Rattle.warm_shards.specs.VisitParts.{IsReader, visit_of}
+use Rattle.warm_shards.specs.VisitParts.{visit_of}
 use Rattle.warm_shards.specs.Visits.{After, Made, VisitState, answered, compares, ends, gathered}
 use Rattle.warm_shards.specs.Visits.{joined, nothing, raised, requests}
-
-reader_without : (id count : ℕ) (made : Made) (after : After) (r : VisitState)
-    → IsReader id count r → IsReader id count (without_of made after r)
-reader_without id count (answered (m ∷ ms)) after r is =
-    record { id = is.id; count = is.count; going = is.going; made = tt }
-reader_without id count (answered []) (requests message) r is =
-    record { id = is.id; count = is.count; going = is.going; made = is.made }
-reader_without id count (answered []) ends r is = is
-reader_without id count (answered []) (compares digests) r is = is
-reader_without id count nothing after r is = is
-reader_without id count (raised horizon) after r is = is
-reader_without id count (gathered horizon table) after r is = is
-reader_without id count (joined h) after r is = is
-
-pub reader_passes : (id count : ℕ) (r : VisitState) → IsReader id count r
-    → IsReader id count (without_message r)
-reader_passes id count r is = reader_without id count r.made r.after r is
 
 module _ (id count time rising shard : ℕ) (kept : Option ℕ) (stopped : Bool) where
   abbrev with_work : Work → VisitState
@@ -42,10 +25,3 @@ module _ (id count time rising shard : ℕ) (kept : Option ℕ) (stopped : Bool)
   pub passes_read : (r : VisitState)
       → with_work (Read (without_message r)) ≡ without_message (with_work (Read r))
   passes_read r = read_without r.made r.after r
-
-  -- what gives has no message
-  pub stays_giving : (work : Work) → ((r : VisitState) → work ≡ Read r → ⊥)
-      → with_work work ≡ without_message (with_work work)
-  stays_giving Raise other = refl
-  stays_giving (Give parts) other = refl
-  stays_giving (Read r) other = absurd (other r refl)

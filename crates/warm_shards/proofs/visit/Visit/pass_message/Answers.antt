@@ -1,10 +1,10 @@
-use Rattle.std.proofs.Common.{◌≡◌, sym, ap, subst, ◌∙◌}
+use Rattle.std.proofs.Common.{sym, ap, ◌∙◌}
 use Rattle.warm_shards.specs.declared.visit.Work.{Work}
 use Rattle.warm_shards.specs.declared.visit.Work.TheVariants.{Read}
 use Rattle.warm_shards.specs.VisitMessages.{without_message}
-use Rattle.warm_shards.specs.VisitParts.{IsPlace, IsReader, visit_of}
+use Rattle.warm_shards.specs.VisitParts.{visit_of}
 use Rattle.warm_shards.specs.Visits.{VisitState}
-use Rattle.warm_shards.proofs.VisitReadsMessages.{passes_read, reader_passes, stays_giving}
+use Rattle.warm_shards.proofs.VisitReadsMessages.{passes_read}
 use Rattle.warm_shards.proofs.visit.Visit.pass_message.Goals as goal
 
 pub returns : goal.returns
