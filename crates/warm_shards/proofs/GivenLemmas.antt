@@ -241,18 +241,6 @@ gives_alone S ns i n m d (Ok given) are lt le own at one =
 
 -- ---- raised, and then given
 
--- each shard rises: no reference is given, at this horizon
-pub risen_all : (time k : ℕ) (old ns : List NodeState) → AreShards old → length old ≤ k
-    → OfFirst (Rises time) k old ns → AreGiven (at_horizon time) old ns
-risen_all time k old ns are over risen =
-    given_all (at_horizon time) old ns are (record { count = risen.count; each = λ i lt. risen.first i (omega (arith, over, lt)) })
-
-pub kept_horizon : (ns : List NodeState) (n d : NodeState) (kept : ℕ) → AreShards ns
-    → n ≡ get_or ns 0 d → kept ≡ n.history.horizon → kept ≡ (whole ns).horizon
-kept_horizon ns n d kept are at is =
-    let some = some_shards ns are in
-    is ∙ ap (λ (x : NodeState). x.history.horizon) (read_at ns 0 n d some at) ∙ shard_horizon ns 0 are some some
-
 -- the first shard has at least the horizon to which all were raised
 pub raised_late : (old mid : List NodeState) (time : ℕ) → AreGiven (at_horizon time) old mid
     → time ≤ (shard_at mid 0).history.horizon

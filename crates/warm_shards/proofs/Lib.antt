@@ -29,7 +29,6 @@ pub mod VisitReadsPortions
 pub mod VisitReadsSends
 pub mod VisitReadsOffers
 pub mod VisitReadsCopies
-pub mod VisitReadsRaised
 pub mod VisitReadsDigests
 pub mod VisitReadsLaws
 pub mod VisitErrands

@@ -15,11 +15,6 @@ use Rattle.warm_shards.specs.Shards.{shard_at, whole}
 use Rattle.warm_shards.proofs.Calls.{same_ids, same_whole}
 use Rattle.warm_shards.proofs.GivenLemmas.{given_id, whole_given}
 
-pub horizon_of : (m : Message) → (refs_in m).horizon ≡ horizon_in m
-horizon_of (Entries sender horizon entries) = refl
-horizon_of (Digest sender horizon digests) = refl
-horizon_of (Want sender horizon request) = refl
-
 -- a caller sees the horizon alone
 after_raise : (old mid new : List NodeState) (time : ℕ) → AreGiven (at_horizon time) old mid
     → SameShards mid new → TakesInAll old (at_horizon time) new

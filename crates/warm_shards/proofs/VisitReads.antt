@@ -18,7 +18,7 @@ use Rattle.warm_shards.specs.Shards.{shard_at}
 use Rattle.warm_shards.specs.VisitReads.{from_shard}
 use Rattle.warm_shards.specs.VisitLaws.{Alone, EntersAlone}
 use Rattle.warm_shards.specs.Visits.{After, Ask, Enters, Errand, Made, NodeSays, Said, Takes, VisitState}
-use Rattle.warm_shards.specs.Visits.{at_shard, copied, copying, offered, offering, refused, shard_next}
+use Rattle.warm_shards.specs.Visits.{at_each, at_shard, copied, copying, offered, offering, refused, shard_next}
 use Rattle.warm_shards.specs.Visits.{sending, sent}
 use Rattle.warm_shards.proofs.Calls.{same_one}
 
@@ -87,6 +87,12 @@ pub errand_none : (first count : ℕ) (ask : Ask) → count ≤ first → from_s
 errand_none first count ask le =
     let none : count - first ≡ 0 = omega (arith, le) in
     ap (λ n. map (λ i. at_shard i ask) (range_with_len first n)) none
+
+-- the errands of all shards are those from the first shard on
+pub from_first : (count : ℕ) (ask : Ask) → at_each count ask ≡ from_shard 0 count ask
+from_first count ask =
+    let all : count ≡ count - 0 = omega arith in
+    ap (λ n. map (λ i. at_shard i ask) (range_with_len 0 n)) all
 
 -- one entry, at this shard
 pub record EntersAt (v : VisitState) (ns : List NodeState) (i : ℕ) (ask : Ask) (rest : List Errand)

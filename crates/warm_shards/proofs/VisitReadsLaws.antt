@@ -25,8 +25,8 @@ use Rattle.warm_shards.proofs.VisitReads.{all_keep, all_there, visit_at}
 use Rattle.warm_shards.proofs.VisitReadsCopies.{Copies, all_copied, copies_on}
 use Rattle.warm_shards.proofs.VisitReadsDigests.{Comparing, answer_made, compares_on, same_compared}
 use Rattle.warm_shards.proofs.VisitReadsOffers.{Offered, Offers, all_offered, goes_next, nothing_compared, offers_first, offers_one}
-use Rattle.warm_shards.proofs.VisitReadsRaised.{from_first, raised_first}
 use Rattle.warm_shards.proofs.VisitReadsSends.{Sends, all_sent, sends_first, sends_on}
+use Rattle.warm_shards.proofs.VisitSweeps.{raises_first}
 use Rattle.warm_shards.proofs.WholeLemmas.{none_joined}
 
 -- ---- how a visit ends that was not raised
@@ -130,12 +130,11 @@ after_raise old mid time made after plan raised =
 pub requests_answered : (sender horizon request : ℕ) → ReceivesAlone (Want sender horizon request)
 requests_answered sender horizon request old new w are (entries, runs) over =
     let message = Want sender horizon request in
-    let s = alone (receive_visit (shard_at old 0).id (length old) message) old in
-    let risen = raised_first old horizon (send_plan (length old) request) (answered []) ends are (λ h. refl) s (alone w new) entries refl refl runs over in
+    let risen = raises_first (shard_at old 0).id old horizon (send_plan (length old) request) (λ k. answered []) ends (alone w new) entries are (λ k. refl) runs over in
     let mid = risen.mid.shards in
     let all = requested_messages (shard_at mid 0).id (whole mid) request in
     let first = sends_first mid mid request ends (same_none mid) risen.mid refl (risen.visit ∙ after_raise old mid horizon (answered []) ends (λ count. send_plan count request) risen.raised) in
-    let last : Sends mid all ends (alone w new) = all_keep EntersAlone (Sends mid all ends) (sends_on mid all ends risen.raised.shards) risen.mid (alone w new) risen.more first risen.runs in
+    let last : Sends mid all ends (alone w new) = all_keep EntersAlone (Sends mid all ends) (sends_on mid all ends risen.raised.shards) risen.mid (alone w new) risen.entries first risen.runs in
     ends_raised (λ u ns. Together old (Receive message) (Answers (answers_of u.made u.after)) ns) old mid new w horizon (refs_in message) are refl risen.raised last.same (λ going.
     request_received old mid new sender horizon request (answers_of w.made w.after) all (all_sent mid all ends (alone w new) last over going) risen.raised last.same refl)
 
@@ -143,14 +142,13 @@ pub digests_answered : (sender horizon : ℕ) (digests : List (List ℕ))
     → ReceivesAlone (Digest sender horizon digests)
 digests_answered sender horizon digests old new w are (entries, runs) over =
     let message = Digest sender horizon digests in
-    let s = alone (receive_visit (shard_at old 0).id (length old) message) old in
     let after = compares digests in
-    let risen = raised_first old horizon (at_each (length old) offering) nothing_offered after are (λ h. refl) s (alone w new) entries refl refl runs over in
+    let risen = raises_first (shard_at old 0).id old horizon (at_each (length old) offering) (λ k. nothing_offered) after (alone w new) entries are (λ k. refl) runs over in
     let mid = risen.mid.shards in
     let are_mid = risen.raised.shards in
     let begins = risen.visit ∙ after_raise old mid horizon nothing_offered after (λ count. at_each count offering) risen.raised ∙ ap (λ xs. visit_at (shard_at mid 0).id (length mid) xs nothing_offered after false) (from_first (length mid) offering) in
     let first : Comparing mid digests risen.mid = inl (record { k = 0; there = some_shards mid are_mid; offers = offers_first mid after risen.mid (same_none mid) begins }) in
-    let last : Comparing mid digests (alone w new) = all_keep EntersAlone (Comparing mid digests) (compares_on mid digests are_mid) risen.mid (alone w new) risen.more first risen.runs in
+    let last : Comparing mid digests (alone w new) = all_keep EntersAlone (Comparing mid digests) (compares_on mid digests are_mid) risen.mid (alone w new) risen.entries first risen.runs in
     let same = same_compared mid digests (alone w new) last in
     ends_raised (λ u ns. Together old (Receive message) (Answers (answers_of u.made u.after)) ns) old mid new w horizon (refs_in message) are refl risen.raised same (λ going.
     digests_received old mid new sender horizon digests (answers_of w.made w.after) (answers_of w.made w.after) refl risen.raised same (answer_made mid digests (alone w new) last over going))

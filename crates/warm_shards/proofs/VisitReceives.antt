@@ -153,9 +153,6 @@ same_of_whole old new are now id is keep = record {
   bytes = keep.bytes;
 }
   where
-    S : ReferenceSet
-    S = references_of (whole old)
-
     cases : (i : ℕ) (b : Bool) → nat_lt i (length old) ≡ b
         → node_view (shard_at new i) ≡ node_view (shard_at old i)
     cases i true less =

@@ -124,6 +124,7 @@ IsTask count (Gather g) = IsBeforeLast g.shard count g.waiting
 IsTask count (Send s) = IsPageOrNone s.after
 IsTask count (Copy c) = c.shard ≤ count
 
+-- there are shards, and the task is one of them
 pub record IsReadingVisit (count : ℕ) (task : Task) : Type 0 where
   pub some : 0 < count
   pub place : IsTask count task

@@ -354,6 +354,7 @@ impl Visit {
             Work::Read(reading) => {
                 if let Err(_refused) = reading.enter(node) {
                     self.stopped = true;
+                    return;
                 }
             }
         }
