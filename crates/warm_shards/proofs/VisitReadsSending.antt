@@ -26,7 +26,7 @@ use Rattle.warm_peer.specs.Since.{HasMoreSince, sent_since}
 use Rattle.warm_gossip.specs.State.{NodeState}
 use Rattle.warm_shards.specs.declared.sending.Sending.{Sending}
 use Rattle.warm_shards.specs.VisitReads.{HasReadOne, IsPageOrNone, asks_for, send_from, sending_visit}
-use Rattle.warm_shards.specs.Visits.{After, Errand, HasEntered, answered, at_shard, begun, entries_after, entries_for, entries_for_all, goes_on, pages_after, refused, send_plan, sending, sent, with_message}
+use Rattle.warm_shards.specs.Visits.{After, Errand, HasEntered, answered, at_shard, begun, entries_after, entries_for, entries_for_all, goes_on, pages_after, send_plan, sending, sent, with_message}
 use Rattle.warm_shards.proofs.Calls.{bytes_same}
 use Rattle.warm_shards.proofs.VisitReadsPortions.{last_of_first, left_of_bucket, portion_is}
 
@@ -168,21 +168,6 @@ sends_last id count bucket s t n message at want steps none is follow made =
           (ap (λ b. send_from count b s.later s.after) at) (omega (arith, ap entries_for_all plan)) (omega arith) (ap (λ x. entries_after (asks_for id x)) want);
       count = refl;
     }
-
--- the node had no memory for it
-pub sends_refused : (id count bucket : ℕ) (s : Sending) (n : NodeState) → s.bucket ≡ Some bucket
-    → HasEntered (sending_visit id count s) n (record (sending_visit id count s) { stopped = true }) n
-sends_refused id count bucket s n at = (
-  at_shard (bucket % count) (sending bucket s.after),
-  refused,
-  record {
-    ready = refl;
-    rest = later_errands count s.later;
-    next = ap (λ b. send_from count b s.later s.after) at;
-    says = (refl, bytes_same n.pool);
-    takes = refl;
-  },
-)
 
 -- ---- a request
 

@@ -1,7 +1,8 @@
 //! What a visit reads of shards: their digests, the entries of buckets, or all that they know.
 ghost use Rattle.std.specs.Prelude.{◌≡◌, ◌≢◌, ◌<◌, ◌≤◌, ℕ, [], if◌then◌else◌, nat_lt};
-ghost use Rattle.std.specs.Prelude.{IfOk, IfSome, None, Some};
+ghost use Rattle.std.specs.Prelude.{IfNone, IfOk, IfSome, None, Some};
 ghost use Rattle.warm_frames.specs.declared.layout.TheConstants.{DIGEST_SIZE};
+ghost use Rattle.warm_shards.specs.VisitMessages.{final_message, first_message, without_message};
 ghost use Rattle.warm_shards.specs.Visits.{ComparesOffers, VisitState, answered, answers_of, at_each};
 ghost use Rattle.warm_shards.specs.Visits.{begun, compares, copy_of, copy_visit, ends, next_shard};
 ghost use Rattle.warm_shards.specs.Visits.{nothing_offered, offer_in, offer_visit, offering, send_plan};
@@ -281,6 +282,46 @@ impl Reading {
         let Copying { shard: _, history } = copying;
         Some(history)
     }
+
+    /// The first message that waits, if one does.
+    pub(crate) fn first_message(&self) -> Option<&Message>
+        ensures some { IfSome result (λ message. first_message self.now ≡ Some message.now) }
+        ensures none { IfNone result (first_message self.now ≡ None) }
+    {
+        match &self.task {
+            Task::Send(sending) => sending.messages.first(),
+            _ => None,
+        }
+    }
+
+    /// The message that comes last, if no errand and no other message is left.
+    pub(crate) fn final_message(&self) -> Option<Message>
+        ensures { result ≡ final_message self.now }
+    {
+        match &self.task {
+            Task::Gather(gathering) => gathering.offer(self.id, self.count),
+            Task::Send(sending) => sending.request(self.id),
+            Task::Copy(_) => None,
+        }
+    }
+
+    /// Passes the first message; or, if there is none, the request.
+    pub(crate) fn pass_message(&mut self)
+        ensures { self.new ≡ without_message self.old }
+    {
+        pass_in(&mut self.task);
+    }
+
+    /// The history that was copied so far.
+    pub(crate) fn history(&self) -> Option<&History>
+        ensures some { IfSome result (λ h. copy_of self.now.made ≡ Some h.now) }
+        ensures none { IfNone result (copy_of self.now.made ≡ None) }
+    {
+        match &self.task {
+            Task::Copy(copying) => Some(&copying.history),
+            _ => None,
+        }
+    }
 }
 
 // The shard of the next errand of a task, if there is one.
@@ -304,4 +345,15 @@ pub(crate) fn below(shard: usize, count: usize) -> Option<usize>
     ensures { result ≡ (if nat_lt shard count then Some shard else None) }
 {
     if shard < count { Some(shard) } else { None }
+}
+
+// Passes the first message, or the request.
+fn pass_in(task: &mut Task)
+    ensures value { (id count : ℕ) → reading_of id count task.new
+        ≡ without_message (reading_of id count task.old) }
+    ensures reading { (count : ℕ) → IsReadingVisit count task.old → IsReadingVisit count task.new }
+{
+    if let Task::Send(sending) = task {
+        sending.pass();
+    }
 }

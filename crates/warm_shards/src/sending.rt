@@ -4,6 +4,7 @@ ghost use Rattle.warm_frames.specs.Limits.{entries_in};
 ghost use Rattle.warm_peer.specs.Chunks.{last_page};
 ghost use Rattle.warm_shards.specs.VisitReads.{HasNoEntries, IsPageOrNone, ReadsOne, asks_for};
 ghost use Rattle.warm_shards.specs.VisitReads.{sending_visit};
+ghost use Rattle.warm_shards.specs.VisitMessages.{final_message, without_message};
 ghost use Rattle.warm_shards.specs.Visits.{answered, answers_of, begun, send_plan, with_message};
 
 use std::alloc::{AllocError, Global};
@@ -139,5 +140,38 @@ impl Sending {
             })?;
         }
         Ok(messages)
+    }
+
+    /// The request, if no bucket and no message is left.
+    pub(crate) fn request(&self, id: ReplicaId) -> Option<Message>
+        ensures { (count : ℕ) → result ≡ final_message (sending_visit id count self.now) }
+    {
+        if !self.messages.is_empty() {
+            return None;
+        }
+        if let Some(_bucket) = self.bucket {
+            return None;
+        }
+        match &self.want {
+            Some(want) => Some(Message::Want {
+                sender: id,
+                horizon: want.horizon,
+                request: want.request,
+            }),
+            None => None,
+        }
+    }
+
+    /// Passes the first message; or, if there is none, the request.
+    pub(crate) fn pass(&mut self)
+        ensures value { (id count : ℕ) → sending_visit id count self.new
+            ≡ without_message (sending_visit id count self.old) }
+        ensures page { self.new.after ≡ self.old.after }
+    {
+        if !self.messages.is_empty() {
+            let _first = self.messages.remove(0);
+            return;
+        }
+        self.want = None;
     }
 }

@@ -1,7 +1,6 @@
-use Rattle.std.proofs.Common.{◌≡◌, Option, Result, None, Ok, Some, Err, sym, ap, subst, ◌∙◌, arith}
+use Rattle.std.proofs.Common.{Option, Result, Ok, sym, ap, subst, ◌∙◌}
 use Rattle.std.proofs.lemmas.Result.{err_from_is_err_and}
 use Rattle.warm_gossip.specs.declared.fault.NodeFault.{NodeFault}
-use Rattle.warm_shards.specs.declared.gathering.Gathering.{Gathering}
 use Rattle.warm_shards.specs.declared.reading.Task.{Task}
 use Rattle.warm_shards.specs.declared.reading.Task.TheVariants.{Gather}
 use Rattle.warm_shards.specs.declared.sending.Sending.{Sending}

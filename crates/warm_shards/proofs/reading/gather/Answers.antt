@@ -1,4 +1,4 @@
-use Rattle.std.proofs.Common.{◌≡◌, ◌⊎◌, inl, inr, Option, Result, sym, subst, ◌∙◌, arith}
+use Rattle.std.proofs.Common.{inl, inr, Option, Result, sym, subst, ◌∙◌, arith}
 use Rattle.std.proofs.lemmas.Result.{err_from_is_err_and}
 use Rattle.warm_gossip.specs.declared.fault.NodeFault.{NodeFault}
 use Rattle.warm_shards.specs.declared.sending.Sending.{Sending}
