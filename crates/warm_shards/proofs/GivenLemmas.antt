@@ -20,7 +20,7 @@ use Rattle.warm_gossip.specs.Clauses.{Answered, DevicesAnswered, JoinsEntries, S
 use Rattle.warm_gossip.specs.State.{NodeState, NodeView, empty_node, node_view}
 use Rattle.warm_shards.specs.Clauses.{HasPart, TakesInFirst}
 use Rattle.warm_shards.specs.EachShard.{OfFirst, Rises}
-use Rattle.warm_shards.specs.Given.{AreGiven, Gives, IsGiven, at_horizon}
+use Rattle.warm_shards.specs.Given.{AreGiven, Gives, GivesOne, IsGiven, IsSame, at_horizon}
 use Rattle.warm_shards.specs.Shards.{AreShards, IsShard, IsShardCount, no_shard, of_first_shards, of_shard, shard_at, shard_of, whole}
 use Rattle.warm_shards.proofs.AreShardsLemmas.{all_shards, at_each, some_shards}
 use Rattle.warm_shards.proofs.Buckets.{shard_horizon}
@@ -83,10 +83,6 @@ pub whole_given : (S : ReferenceSet) (old new : List NodeState) → AreGiven S o
 whole_given S old new have = ap (λ (v : NodeView). v.history) (have.given empty_node.pool)
 
 -- ---- one shard after the other
-
--- a caller sees what it saw
-abbrev pub IsSame : NodeState → NodeState → Type 0
-IsSame n m = SameView n m × KeepsBytes n.pool m.pool
 
 -- the first k shards were given their part of S, and the others are as they were
 pub record GivenFirst (S : ReferenceSet) (k : ℕ) (old ns : List NodeState) : Type 0 where
@@ -223,12 +219,6 @@ pub gives_none : (S : ReferenceSet) (ns : List NodeState) (why : NodeFault) → 
     → IsNoLater S ns → why ≡ Memory → Gives S ns (Err why) ns
 gives_none S ns why are le memory =
     gives_first S 0 ns ns why are le memory (some_shards ns are) (inl refl) (none_given S ns)
-
--- what one node does to whom S is given
-pub record GivesOne (S : ReferenceSet) (n : NodeState) (result : Result Unit NodeFault)
-    (m : NodeState) : Type 0 where
-  pub given : OnOk result (IsGiven S n m)
-  pub refused : IfErr result (λ why. (why ≡ Memory) × IsSame n m)
 
 -- there are references to pages of one shard alone
 pub gives_alone : (S : ReferenceSet) (ns : List NodeState) (i : ℕ) (n m d : NodeState)

@@ -24,3 +24,4 @@ pub mod ShardsOfNodesLemmas
 pub mod HoldsPagesLemmas
 pub mod LawsHold
 pub mod Examples
+pub mod VisitExamples

@@ -9,3 +9,5 @@ pub mod EachShard
 pub mod ShardsOfNodes
 pub mod Laws
 pub mod PartLaws
+pub mod Visits
+pub mod VisitLaws
