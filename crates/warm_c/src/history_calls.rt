@@ -1,36 +1,12 @@
 //! The calls on the history of an open handle.
-ghost use Rattle.std.specs.Prelude.{◌≡◌, ◌≤◌, length, map, IfErr, IfOk};
-ghost use Rattle.warm_c.specs.Calls.{Absorbs, BatchRefused, CountsPages, Lists, Raises};
-ghost use Rattle.warm_c_base.specs.Values.{c_page, reference_of, with_start};
+ghost use Rattle.std.specs.Prelude.{◌≡◌, ◌≤◌, length, map, IfOk};
+ghost use Rattle.warm_c.specs.Calls.{CountsPages, Lists};
+ghost use Rattle.warm_c_base.specs.Values.{c_page, with_start};
 
 use crate::open_node::OpenNode;
 use std::alloc::{AllocError, Global};
-use warm_c_base::{Refusal, WarmPage, WarmReference};
-use warm_stamps::{PageId, Reference, ReplicaId, Stamp};
-
-// The references, as the node knows them.
-fn references_of(alloc: Global, batch: &[WarmReference]) -> Result<Vec<Reference>, Refusal>
-    ensures made { IfOk result (λ references. references.items ≡ map reference_of batch.now) }
-    ensures refused { IfErr result (BatchRefused batch.now) }
-{
-    let mut references = Vec::with_capacity(alloc, batch.len())?;
-    for reference in batch {
-        let Ok(replica) = ReplicaId::new(reference.replica) else {
-            return Err(Refusal::BadReplica);
-        };
-        references.push_reserved(Reference {
-            page: PageId {
-                dev: reference.dev,
-                no: reference.no,
-            },
-            stamp: Stamp {
-                time: reference.time,
-                replica,
-            },
-        });
-    }
-    Ok(references)
-}
+use warm_c_base::{Refusal, WarmPage};
+use warm_stamps::PageId;
 
 // The pages, as C knows them.
 pub(crate) fn c_pages(alloc: Global, pages: &[PageId]) -> Result<Vec<WarmPage>, AllocError>
@@ -52,27 +28,6 @@ pub(crate) fn put_pages(pages: &[WarmPage], into: &mut [WarmPage])
 }
 
 impl OpenNode {
-    /// Calls [`warm_gossip::Node::absorb`].
-    ///
-    /// # Errors
-    /// Nothing has changed.
-    /// - `BadReplica`: one of them has a replica's number that is not valid.
-    /// - `Node`: the node's own.
-    pub fn absorb(&mut self, alloc: Global, batch: &[WarmReference]) -> Result<(), Refusal>
-        ensures { Absorbs batch.now self.old result self.new }
-    {
-        let references = references_of(alloc, batch)?;
-        self.node.absorb(&references)?;
-        Ok(())
-    }
-
-    /// Calls [`warm_gossip::Node::raise`], and returns the horizon from then on.
-    pub fn raise(&mut self, time: u64) -> u64
-        ensures { Raises time result self.old self.new }
-    {
-        self.node.raise(time)
-    }
-
     /// Calls [`warm_gossip::Node::warm_list`] for as many pages as there is room for, puts them at
     /// the start of `pages`, and writes their number.
     ///

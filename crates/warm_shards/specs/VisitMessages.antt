@@ -1,0 +1,47 @@
+-- The messages of a visit, taken out one after the other; and a visit that goes on after a refusal.
+use Rattle.std.specs.Prelude.{ℕ, false, List, [], ◌∷◌, Option, Some, None}
+use Rattle.warm_history.specs.Histories.{HistoryView}
+use Rattle.warm_frames.specs.declared.message.Message.{Message}
+use Rattle.warm_frames.specs.declared.message.Message.TheVariants.{Digest}
+use Rattle.warm_shards.specs.Visits.{After, Errand, Made, VisitState, answered, begun, ends, gathered}
+use Rattle.warm_shards.specs.Visits.{joined, nothing, requests}
+
+-- a visit of a replica in so many shards that has nothing to do
+abbrev pub idle_visit : ℕ → ℕ → VisitState
+idle_visit id count = begun id count [] nothing ends
+
+-- the first of the messages that are made
+abbrev pub first_of : Made → Option Message
+first_of (answered (message ∷ messages)) = Some message
+first_of made = None
+
+abbrev pub first_message : VisitState → Option Message
+first_message v = first_of v.made
+
+-- What comes last, once no errand and no other message is left: the request behind an answer, or
+-- what was offered.
+abbrev pub last_of : ℕ → Made → List Errand → After → Option Message
+last_of id (answered []) [] (requests message) = Some message
+last_of id (gathered horizon table) [] ends = Some (Digest id horizon table)
+last_of id made plan after = None
+
+abbrev pub last_message : VisitState → Option Message
+last_message v = last_of v.id v.made v.plan v.after
+
+-- the visit without its first message; or else, if no errand is left, without the request
+abbrev pub without_of : Made → List Errand → After → VisitState → VisitState
+without_of (answered (message ∷ messages)) plan after v = record v { made = answered messages }
+without_of (answered []) [] (requests message) v = record v { after = ends }
+without_of made plan after v = v
+
+abbrev pub without_message : VisitState → VisitState
+without_message v = without_of v.made v.plan v.after v
+
+-- what a visit that copies has joined so far
+abbrev pub copied_of : Made → Option HistoryView
+copied_of (joined h) = Some h
+copied_of made = None
+
+-- the visit goes on with the errand that was refused
+abbrev pub resumed : VisitState → VisitState
+resumed v = record v { stopped = false }
