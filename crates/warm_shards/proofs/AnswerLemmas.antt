@@ -127,7 +127,7 @@ pub record SentPortionIs (ns : List NodeState) (bucket since : ℕ) (after : Opt
   pub more : IfOk result (λ x. IsTrue x.more ↔ HasMoreSince (whole ns) bucket since after)
   pub held : IfOk result (λ x. BringsHeld (whole ns) x.message)
 
-more_same : (ns : List NodeState) (j bucket since : ℕ) (after : Option PageId) → AreShards ns
+pub more_same : (ns : List NodeState) (j bucket since : ℕ) (after : Option PageId) → AreShards ns
     → j < length ns → bucket % length ns ≡ j
     → HasMoreSince (shard_at ns j).history bucket since after
     ≡ HasMoreSince (whole ns) bucket since after

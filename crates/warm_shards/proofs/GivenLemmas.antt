@@ -37,7 +37,7 @@ pub record EachIsGiven (S : ReferenceSet) (old new : List NodeState) : Type 0 wh
   pub count : length new ≡ length old
   pub each : (i : ℕ) → i < length old → IsGiven (of_shard (length old) i S) (shard_at old i) (shard_at new i)
 
-beyond : (ns : List NodeState) (i : ℕ) → length ns ≤ i → shard_at ns i ≡ no_shard
+pub beyond : (ns : List NodeState) (i : ℕ) → length ns ≤ i → shard_at ns i ≡ no_shard
 beyond [] i le = refl
 beyond (n ∷ ns) zero le = absurd (omega arith)
 beyond (n ∷ ns) (suc i) le = beyond ns i (omega arith)
@@ -81,6 +81,10 @@ given_all S old new are have =
 pub whole_given : (S : ReferenceSet) (old new : List NodeState) → AreGiven S old new
     → whole new ≡ history (references_of (whole old) ∪ S)
 whole_given S old new have = ap (λ (v : NodeView). v.history) (have.given empty_node.pool)
+
+pub given_id : (S : ReferenceSet) (old new : List NodeState) → AreGiven S old new
+    → (shard_at new 0).id ≡ (shard_at old 0).id
+given_id S old new have = ap (λ (v : NodeView). v.id) (have.given empty_node.pool)
 
 -- ---- one shard after the other
 
@@ -197,7 +201,7 @@ given_some S k old ns are le have = record { count = have.count; each = λ i lt.
 
 gives_ok : (S : ReferenceSet) (old new : List NodeState) (given : Unit {0}) → AreGiven S old new
     → Gives S old (Ok given) new
-gives_ok S old new given have = record { shards = have.shards; given = have.given; refused = tt; pools = have.pools }
+gives_ok S old new given have = record { shards = have.shards; id = given_id S old new have; given = have.given; refused = tt; pools = have.pools }
 
 -- all shards were given their parts
 pub gives_all : (S : ReferenceSet) (k : ℕ) (old ns : List NodeState) (given : Unit {0})
@@ -212,7 +216,7 @@ pub gives_first : (S : ReferenceSet) (k : ℕ) (old ns : List NodeState) (why : 
 gives_first S k old ns why are le memory lt part have =
     let first = of_first_shards (length old) k S in
     let all = given_all first old ns are (given_some S k old ns are le have) in
-    record { shards = all.shards; given = tt; refused = (memory, (k, lt, part, whole_given first old ns all)); pools = all.pools }
+    record { shards = all.shards; id = given_id first old ns all; given = tt; refused = (memory, (k, lt, part, whole_given first old ns all)); pools = all.pools }
 
 -- none was
 pub gives_none : (S : ReferenceSet) (ns : List NodeState) (why : NodeFault) → AreShards ns
@@ -296,6 +300,7 @@ pub raised_gives : (old mid new : List NodeState) (time : ℕ) (S : ReferenceSet
     → Gives S mid result new → Gives S old result new
 raised_gives old mid new time S (Ok given) at raised gives = record {
   shards = gives.shards;
+  id = gives.id ∙ given_id (at_horizon time) old mid raised;
   given = λ pool.
       let was = raised.given pool in
       let is = gives.given pool in
@@ -307,6 +312,7 @@ raised_gives old mid new time S (Ok given) at raised gives = record {
 }
 raised_gives old mid new time S (Err why) at raised gives = record {
   shards = gives.shards;
+  id = gives.id ∙ given_id (at_horizon time) old mid raised;
   given = tt;
   refused = (gives.refused.0, first_raised old mid new time S at raised gives.refused.1);
   pools = keep_then old mid new raised.pools gives.pools;

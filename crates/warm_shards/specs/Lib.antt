@@ -11,3 +11,5 @@ pub mod Laws
 pub mod PartLaws
 pub mod Visits
 pub mod VisitLaws
+pub mod VisitReads
+pub mod VisitParts

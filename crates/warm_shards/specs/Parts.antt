@@ -1,5 +1,5 @@
 -- A batch, a message or a history, by the shards of its pages.
-use Rattle.std.specs.Prelude.{◌≡◌, ℕ, ◌<◌, List, [], filter, length, nat_eq, slice_index_or}
+use Rattle.std.specs.Prelude.{◌≡◌, ℕ, ◌<◌, List, filter, length, nat_eq, slice_index_or}
 use Rattle.std.specs.Global.{Vec}
 use Rattle.warm_stamps.specs.declared.PageId.{PageId}
 use Rattle.warm_stamps.specs.declared.Reference.{Reference}

@@ -19,7 +19,7 @@ use Rattle.warm_shards.specs.Clauses.{JoinsAll, KeepPools, TakesInFirst, Togethe
 use Rattle.warm_shards.specs.Given.{at_horizon}
 use Rattle.warm_shards.specs.Shards.{AreShards, IsShardCount, shard_at, shard_of, whole}
 use Rattle.warm_shards.specs.Visits.{Ask, Enters, Errand, Said, VisitState, absorb_visit}
-use Rattle.warm_shards.specs.Visits.{answers_of, copy_visit, given, giving, join_visit, joined}
+use Rattle.warm_shards.specs.Visits.{answers_of, copy_of, copy_visit, given, giving, join_visit}
 use Rattle.warm_shards.specs.Visits.{kept_of, next_shard, offer_of, offer_visit, raise_visit}
 use Rattle.warm_shards.specs.Visits.{receive_visit, sending}
 
@@ -51,6 +51,7 @@ pub record EndsAlone (well : VisitState → List NodeState → Type 0) (S : Refe
   pub stopped : w.stopped ≡ true → TakesInFirst old S new
   pub pools : KeepPools old new
   pub shards : AreShards new
+  pub id : (shard_at new 0).id ≡ (shard_at old 0).id
 
 -- whenever shards have been visited so, until no errand was left, or one was refused
 abbrev pub Whenever : (ℕ → ℕ → VisitState)
@@ -80,13 +81,14 @@ pub record GivingIsOneNode : Type 0 where
 
 -- And so is one that reads.
 pub record ReadingIsOneNode : Type 0 where
-  pub offers : Whenever offer_visit (λ old. EndsAlone
-      (λ w new. Together old Offer (Sent (offer_of w.id w.made)) new) (set_of_list []) old)
+  pub offers : Whenever offer_visit (λ old. EndsAlone (λ w new. (offer : Message)
+      × (offer_of w.id w.made ≡ Some offer) × Together old Offer (Sent offer) new) (set_of_list [])
+      old)
   pub requests : (sender horizon request : ℕ) → ReceivesAlone (Want sender horizon request)
   pub digests : (sender horizon : ℕ) (digests : List (List ℕ))
       → ReceivesAlone (Digest sender horizon digests)
   pub copies : Whenever copy_visit (λ old. EndsAlone
-      (λ w new. w.made ≡ joined (whole old)) (set_of_list []) old)
+      (λ w new. copy_of w.made ≡ Some (whole old)) (set_of_list []) old)
 
 -- Others come between
 

@@ -286,6 +286,11 @@ receive_visit id count (Want sender horizon request) =
 receive_visit id count (Digest sender horizon digests) =
     begun id count (raise_plan count horizon ++ at_each count offering) no_offer (compares digests)
 
+-- the message is one of entries
+abbrev pub HasEntries : Message → Type 0
+HasEntries (Entries sender horizon entries) = Unit {0}
+HasEntries message = ⊥
+
 abbrev pub copy_visit : ℕ → ℕ → VisitState
 copy_visit id count = begun id count (at_each count copying) (joined (history_of_entries [])) ends
 
@@ -296,9 +301,14 @@ answers_of (answered messages) after = messages
 answers_of made after = []
 
 -- what it offers
-abbrev pub offer_of : ℕ → Made → Message
-offer_of id (gathered horizon table) = Digest id horizon table
-offer_of id made = Digest id 0 []
+abbrev pub offer_of : ℕ → Made → Option Message
+offer_of id (gathered horizon table) = Some (Digest id horizon table)
+offer_of id made = None
+
+-- the history that it copied
+abbrev pub copy_of : Made → Option HistoryView
+copy_of (joined h) = Some h
+copy_of made = None
 
 -- the earliest horizon
 abbrev pub kept_of : Made → Option ℕ

@@ -19,6 +19,9 @@ mod batch_parts;
 mod each_shard;
 mod engine_calls;
 mod fault;
+mod gathering;
+mod giving;
+mod go_through;
 mod gossip;
 mod history_calls;
 mod joining;
@@ -26,8 +29,11 @@ pub mod laws;
 mod lending;
 mod message_parts;
 mod pool_calls;
+mod reading;
+mod sending;
 mod shards;
 mod shards_of_nodes;
+mod visit;
 
 pub use answers::fill_digests;
 pub use batch_parts::parts_of;
@@ -35,3 +41,5 @@ pub use fault::{ShardsError, ShardsFault};
 pub use message_parts::{part_of_entries, part_of_message};
 pub use pool_calls::ShardSlot;
 pub use shards::{Shards, frames_of_shard, is_shard_count, shard_of};
+pub use visit::Visit;
+

@@ -1,0 +1,118 @@
+//! The entries of buckets, sent in portions: each is a message.
+ghost use Rattle.std.specs.Prelude.{◌≡◌, ◌↔◌, ℕ, [], IsTrue, OnErr, OnOk, Some};
+ghost use Rattle.warm_frames.specs.Limits.{entries_in};
+ghost use Rattle.warm_peer.specs.Chunks.{last_page};
+ghost use Rattle.warm_shards.specs.VisitReads.{HasNoEntries, IsPage, ReadsOne, asks_for};
+ghost use Rattle.warm_shards.specs.VisitReads.{sending_visit};
+ghost use Rattle.warm_shards.specs.Visits.{answered, begun, send_plan, with_message};
+
+use std::alloc::{AllocError, Global};
+use warm_devices::PageDevice;
+use warm_frames::Message;
+use warm_gossip::{Node, NodeFault};
+use warm_history::laws::prove_is_history;
+use warm_peer::SentPortion;
+use warm_stamps::{Bucket, BucketSet, Buckets, PageId};
+
+// A request for the buckets that differ.
+#[derive(Drop)]
+pub(crate) struct Wanted {
+    pub(crate) horizon: u64,
+    pub(crate) request: BucketSet,
+}
+
+// What is still to be sent, and what was.
+#[derive(Drop)]
+pub(crate) struct Sending {
+    // The bucket of the next portion, if there is one, and those after it.
+    pub(crate) bucket: Option<Bucket>,
+    pub(crate) later: Buckets,
+    // The page after which the portion begins.
+    pub(crate) after: Option<PageId>,
+    pub(crate) messages: Vec<Message>,
+    // The request that comes last.
+    pub(crate) want: Option<Wanted>,
+}
+
+// The page of the last entry of a message.
+fn last_page_of(message: &Message) -> Option<PageId>
+    ensures value { result ≡ last_page (entries_in message.now) }
+    ensures page { IsPage result }
+{
+    let Message::Entries { entries, .. } = message else {
+        return None;
+    };
+    let entries = entries.as_slice();
+    if entries.is_empty() {
+        return None;
+    }
+    Some(entries[entries.len() - 1].page)
+}
+
+fn has_no_entries(message: &Message) -> bool
+    ensures { IsTrue result ↔ HasNoEntries message.now }
+{
+    match message {
+        Message::Entries { entries, .. } => entries.as_slice().is_empty(),
+        _ => false,
+    }
+}
+
+// Adds a message, unless it is one without entries.
+fn add_message(messages: &mut Vec<Message>, message: Message) -> Result<(), AllocError>
+    ensures added { OnOk result
+        (answered messages.new.items ≡ with_message (answered messages.old.items) message) }
+    ensures refused { OnErr result (messages.new.items ≡ messages.old.items) }
+{
+    if has_no_entries(&message) {
+        return Ok(());
+    }
+    messages.push(message)?;
+    Ok(())
+}
+
+impl Sending {
+    /// Sends the buckets of a request, from the first one on. Allocation-free.
+    pub(crate) fn of(alloc: Global, request: BucketSet, want: Option<Wanted>) -> Sending
+        ensures sends { (id count : ℕ) → sending_visit id count result
+            ≡ begun id count (send_plan count request) (answered []) (asks_for id want) }
+        ensures page { IsPage result.after }
+    {
+        let mut later = request.iter();
+        let bucket = later.next();
+        Sending {
+            bucket,
+            later,
+            after: None,
+            messages: Vec::new(alloc),
+            want,
+        }
+    }
+
+    /// Sends the next portion, of the node of its shard.
+    ///
+    /// `Memory` occurs only if an allocation fails.
+    pub(crate) fn send<D: PageDevice>(
+        &mut self,
+        node: &Node<D>,
+        bucket: Bucket,
+    ) -> Result<(), NodeFault>
+        requires bucket { self.old.bucket ≡ Some bucket }
+        requires page { IsPage self.old.after }
+        ensures page { IsPage self.new.after }
+        ensures sent { (id count : ℕ) → ReadsOne (sending_visit id count self.old) node.now result
+            (sending_visit id count self.new) node.now }
+    {
+        prove_is_history(node.history());
+        let SentPortion { message, more } = node.send_since(bucket, 0, self.after)?;
+        let last = last_page_of(&message);
+        add_message(&mut self.messages, message)?;
+        if more {
+            self.after = last;
+            return Ok(());
+        }
+        self.bucket = self.later.next();
+        self.after = None;
+        Ok(())
+    }
+}
