@@ -12,7 +12,7 @@ use Rattle.warm_frames.specs.Reading.{GivesReading, read_frame, reserved_by}
 use Rattle.warm_gossip.specs.declared.fault.NodeFault.{NodeFault}
 use Rattle.warm_gossip.specs.declared.fault.NodeFault.TheVariants.{Memory}
 use Rattle.warm_shards.specs.Shards.{IsShardCount}
-use Rattle.warm_shards.specs.VisitMessages.{copied_of, idle_visit, next_message, offered_in}
+use Rattle.warm_shards.specs.VisitMessages.{copied_of, first_message, idle_visit, last_message}
 use Rattle.warm_shards.specs.VisitMessages.{resumed, without_message}
 use Rattle.warm_shards.specs.Visits.{HasEntered, VisitState, absorb_visit, join_visit, kept_of}
 use Rattle.warm_shards.specs.Visits.{next_shard, receive_visit, result_of}
@@ -89,7 +89,7 @@ unless_waits None shard = shard
 unless_waits (Some message) shard = None
 
 abbrev pub wanted_shard : VisitState → Option ℕ
-wanted_shard v = unless_waits (next_message v) (next_shard v)
+wanted_shard v = unless_waits (first_message v) (next_shard v)
 
 -- whether there is a number, and which; it is as it was if there is none
 abbrev pub IsOptionalNumber : Option ℕ → ℕ → Bool → ℕ → Type 0
@@ -149,9 +149,9 @@ abbrev pub or_message : Option Message → Option Message → Option Message
 or_message (Some message) other = Some message
 or_message None other = other
 
--- what waits to be handed out: what was offered, or the next message of an answer
+-- what waits to be handed out: the first message, or what comes last
 abbrev pub waiting_in : VisitState → Option Message
-waiting_in v = or_message (offered_in v) (next_message v)
+waiting_in v = or_message (first_message v) (last_message v)
 
 -- Length 0 is written if no message waits. Else its frame is put into the buffer, and the visit is
 -- without it; a refused call keeps it.

@@ -3,10 +3,10 @@
 ghost use Rattle.std.specs.Prelude.{◌≡◌, None, Some, IfErr, OnOk};
 ghost use Rattle.std.specs.Io.KnownBytes.{Appends};
 ghost use Rattle.warm_dump.specs.Dumps.{dump_of};
-ghost use Rattle.warm_shards.specs.VisitMessages.{copied_of};
+ghost use Rattle.warm_shards.specs.VisitMessages.{last_message};
 ghost use Rattle.warm_c.specs.Calls.{SaveRefused};
-ghost use Rattle.warm_c.specs.Visits.{EntersIf, HandsOutNext, ListsCopy, SavesCopy, SaysKept};
-ghost use Rattle.warm_c.specs.Visits.{SaysResult, wanted_shard};
+ghost use Rattle.warm_c.specs.Visits.{EntersIf, HandsOut, HandsOutNext, ListsCopy, SavesCopy};
+ghost use Rattle.warm_c.specs.Visits.{SaysKept, SaysResult, wanted_shard};
 
 use crate::frame_calls::put_frame;
 use crate::history_calls::{c_pages, put_pages};
@@ -25,7 +25,7 @@ impl OpenVisit {
     pub fn next(&self) -> Option<usize>
         ensures { result ≡ wanted_shard self.now.visit }
     {
-        if let Some(_message) = self.visit.message() {
+        if let Some(_message) = self.visit.first_message() {
             return None;
         }
         self.visit.next()
@@ -63,7 +63,28 @@ impl OpenVisit {
         }
     }
 
-    /// Writes the frame of what was offered, or of the next message of an answer, and its length;
+    // Hands out what comes last: the request behind an answer, or what was offered.
+    fn hand_out_last(
+        &mut self,
+        alloc: Global,
+        frame: &mut [u8],
+        len: &mut usize,
+    ) -> Result<(), Refusal>
+        ensures { HandsOut (last_message self.old.visit) frame.old len.old frame.new len.new
+            self.old result self.new }
+    {
+        let Some(message) = self.visit.last_message() else {
+            *len = 0;
+            return Ok(());
+        };
+        if let Err(why) = put_frame(alloc, &message, frame, len) {
+            return Err(why);
+        }
+        self.visit.pass_message();
+        Ok(())
+    }
+
+    /// Writes the frame of the next message of an answer, or of what was offered, and its length;
     /// length 0 if there is none. The visit is then without the message.
     ///
     /// # Errors
@@ -78,12 +99,8 @@ impl OpenVisit {
     ) -> Result<(), Refusal>
         ensures { HandsOutNext frame.old len.old frame.new len.new self.old result self.new }
     {
-        if let Some(offered) = self.visit.offered() {
-            return put_frame(alloc, &offered, frame, len);
-        }
-        let Some(message) = self.visit.message() else {
-            *len = 0;
-            return Ok(());
+        let Some(message) = self.visit.first_message() else {
+            return self.hand_out_last(alloc, frame, len);
         };
         if let Err(why) = put_frame(alloc, message, frame, len) {
             return Err(why);
