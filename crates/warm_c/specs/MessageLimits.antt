@@ -22,11 +22,11 @@ pub record KeepsLimits (limits : NodeLimits) (message : Message) : Type 0 where
 
 -- Which limit a message does not keep: its horizon is later than one of two; or else a stamp of its
 -- entries is later than the first of these; or else its entries are too many.
-abbrev pub IsBeyond : NodeLimits → Message → Refusal → Type 0
-IsBeyond limits message (Late LateHorizon) = (limits.time < horizon_in message)
+abbrev pub ExceedsLimits : NodeLimits → Message → Refusal → Type 0
+ExceedsLimits limits message (Late LateHorizon) = (limits.time < horizon_in message)
     ⊎ (limits.horizon < horizon_in message)
-IsBeyond limits message (Late LateStamp) = (horizon_in message ≤ limits.time)
+ExceedsLimits limits message (Late LateStamp) = (horizon_in message ≤ limits.time)
     × (horizon_in message ≤ limits.horizon) × (StampsBy limits.time (entries_in message) → ⊥)
-IsBeyond limits message TooManyPages = KeepsTimes limits message
+ExceedsLimits limits message TooManyPages = KeepsTimes limits message
     × (HasRoom limits (length (entries_in message)) → ⊥)
-IsBeyond limits message why = ⊥
+ExceedsLimits limits message why = ⊥

@@ -12,7 +12,7 @@ use Rattle.warm_frames.specs.Reading.{GivesReading, read_frame, reserved_by}
 use Rattle.warm_gossip.specs.declared.fault.NodeFault.{NodeFault}
 use Rattle.warm_gossip.specs.declared.fault.NodeFault.TheVariants.{Memory}
 use Rattle.warm_shards.specs.Shards.{IsShardCount}
-use Rattle.warm_shards.specs.VisitMessages.{copied_of, first_message, idle_visit, last_message}
+use Rattle.warm_shards.specs.VisitMessages.{copied_of, first_message, idle_visit, final_message}
 use Rattle.warm_shards.specs.VisitMessages.{resumed, without_message}
 use Rattle.warm_shards.specs.Visits.{HasEntered, VisitState, absorb_visit, join_visit, kept_of}
 use Rattle.warm_shards.specs.Visits.{next_shard, receive_visit, result_of}
@@ -27,7 +27,7 @@ use Rattle.warm_c.specs.declared.message_limits.NodeLimits.{NodeLimits}
 use Rattle.warm_c.specs.declared.open_node.OpenNode.{OpenNode}
 use Rattle.warm_c.specs.declared.open_visit.OpenVisit.{OpenVisit}
 use Rattle.warm_c.specs.Calls.{BatchRefused, Ending, PutsFrame, SameDevices, SaveRefused}
-use Rattle.warm_c.specs.MessageLimits.{IsBeyond, KeepsLimits}
+use Rattle.warm_c.specs.MessageLimits.{ExceedsLimits, KeepsLimits}
 
 -- Opening
 
@@ -51,31 +51,31 @@ OpensVisits replica shards None status None = (why : Refusal) × (status ≡ pos
 -- Beginning
 
 -- The handle has begun this visit of its replica, in its shards.
-abbrev pub Begins : (ℕ → ℕ → VisitState) → OpenVisit → OpenVisit → Type 0
-Begins visit old new = new.visit ≡ visit old.visit.id old.visit.count
+abbrev pub BeginsVisit : (ℕ → ℕ → VisitState) → OpenVisit → OpenVisit → Type 0
+BeginsVisit visit old new = new.visit ≡ visit old.visit.id old.visit.count
 
 -- a batch is absorbed; or one of its references is of no replica, or else memory failed
 abbrev pub BeginsAbsorb : List WarmReference → OpenVisit → Ending → OpenVisit → Type 0
 BeginsAbsorb batch old (Ok given) new =
-    Begins (λ id n. absorb_visit id n (map reference_of batch)) old new
+    BeginsVisit (λ id n. absorb_visit id n (map reference_of batch)) old new
 BeginsAbsorb batch old (Err why) new = BatchRefused batch why × (new ≡ old)
 
 -- A message is received, whose frame the bytes are, and which keeps the limits. Or the bytes are no
 -- frame, or the message does not keep a limit, or memory failed; the visit before is then kept.
 abbrev pub BeginsReceive : NodeLimits → List ℕ → OpenVisit → Ending → OpenVisit → Type 0
 BeginsReceive limits bytes old (Ok given) new = (message : Message) × Encodes bytes message
-    × KeepsLimits limits message × Begins (λ id n. receive_visit id n message) old new
+    × KeepsLimits limits message × BeginsVisit (λ id n. receive_visit id n message) old new
 BeginsReceive limits bytes old (Err (Frame fault)) new =
     GivesReading (Err fault) (read_frame bytes) (reserved_by bytes) × (new ≡ old)
 BeginsReceive limits bytes old (Err (Node Memory)) new = new ≡ old
 BeginsReceive limits bytes old (Err why) new = (message : Message) × Encodes bytes message
-    × IsBeyond limits message why × (new ≡ old)
+    × ExceedsLimits limits message why × (new ≡ old)
 
 -- A history is joined, of which the bytes are a dump, where they are known. Or they show why they
 -- are none, or were not read; or memory failed; the visit before is then kept.
 abbrev pub BeginsLoad : Option (List ℕ) → OpenVisit → Ending → OpenVisit → Type 0
 BeginsLoad bytes old (Ok given) new = (h : HistoryView) × IsHistory h
-    × IfSome bytes (λ text. IsDump text h) × Begins (λ id n. join_visit id n h) old new
+    × IfSome bytes (λ text. IsDump text h) × BeginsVisit (λ id n. join_visit id n h) old new
 BeginsLoad bytes old (Err (Node Memory)) new = new ≡ old
 BeginsLoad bytes old (Err (Dump why)) new =
     ((at : ℕ) × IfSome bytes (λ text. IsDumpRefused text at why)) × (new ≡ old)
@@ -151,7 +151,7 @@ or_message None other = other
 
 -- what waits to be handed out: the first message, or what comes last
 abbrev pub waiting_in : VisitState → Option Message
-waiting_in v = or_message (first_message v) (last_message v)
+waiting_in v = or_message (first_message v) (final_message v)
 
 -- Length 0 is written if no message waits. Else its frame is put into the buffer, and the visit is
 -- without it; a refused call keeps it.

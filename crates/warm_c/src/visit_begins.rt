@@ -5,7 +5,7 @@ ghost use Rattle.warm_shards.specs.Visits.{copy_visit, offer_visit, raise_visit}
 ghost use Rattle.warm_c_base.specs.declared.status.Refusal.TheVariants.{BadReplica};
 ghost use Rattle.warm_c_base.specs.Values.{reference_of};
 ghost use Rattle.warm_c.specs.Calls.{AreOfReplicas, BatchRefused, HasBadReplica};
-ghost use Rattle.warm_c.specs.Visits.{Begins, BeginsAbsorb, BeginsLoad, BeginsReceive};
+ghost use Rattle.warm_c.specs.Visits.{BeginsVisit, BeginsAbsorb, BeginsLoad, BeginsReceive};
 
 use crate::message_limits::{NodeLimits, check_limits};
 use crate::open_visit::OpenVisit;
@@ -74,21 +74,21 @@ impl OpenVisit {
 
     /// Begins [`Visit::raise`].
     pub fn raise(&mut self, time: u64)
-        ensures { Begins (λ id n. raise_visit id n time) self.old self.new }
+        ensures { BeginsVisit (λ id n. raise_visit id n time) self.old self.new }
     {
         self.visit = Visit::raise(self.visit.id(), self.visit.count(), time);
     }
 
     /// Begins [`Visit::offer`].
     pub fn offer(&mut self)
-        ensures { Begins offer_visit self.old self.new }
+        ensures { BeginsVisit offer_visit self.old self.new }
     {
         self.visit = Visit::offer(self.visit.id(), self.visit.count());
     }
 
     /// Begins [`Visit::copy`].
     pub fn copy(&mut self, alloc: Global)
-        ensures { Begins copy_visit self.old self.new }
+        ensures { BeginsVisit copy_visit self.old self.new }
     {
         self.visit = Visit::copy(alloc, self.visit.id(), self.visit.count());
     }

@@ -3,7 +3,7 @@
 ghost use Rattle.std.specs.Prelude.{◌≡◌, None, Some, IfErr, OnOk};
 ghost use Rattle.std.specs.Io.KnownBytes.{Appends};
 ghost use Rattle.warm_dump.specs.Dumps.{dump_of};
-ghost use Rattle.warm_shards.specs.VisitMessages.{last_message};
+ghost use Rattle.warm_shards.specs.VisitMessages.{final_message};
 ghost use Rattle.warm_c.specs.Calls.{SaveRefused};
 ghost use Rattle.warm_c.specs.Visits.{EntersIf, HandsOut, HandsOutNext, ListsCopy, SavesCopy};
 ghost use Rattle.warm_c.specs.Visits.{SaysKept, SaysResult, wanted_shard};
@@ -70,10 +70,10 @@ impl OpenVisit {
         frame: &mut [u8],
         len: &mut usize,
     ) -> Result<(), Refusal>
-        ensures { HandsOut (last_message self.old.visit) frame.old len.old frame.new len.new
+        ensures { HandsOut (final_message self.old.visit) frame.old len.old frame.new len.new
             self.old result self.new }
     {
-        let Some(message) = self.visit.last_message() else {
+        let Some(message) = self.visit.final_message() else {
             *len = 0;
             return Ok(());
         };

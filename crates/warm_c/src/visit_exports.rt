@@ -6,7 +6,7 @@
 ghost use Rattle.std.specs.Prelude.{◌≡◌, Bool, None, Some};
 ghost use Rattle.warm_shards.specs.Visits.{copy_visit, offer_visit, raise_visit};
 ghost use Rattle.warm_c.specs.Handles.{OnHandle, Surely};
-ghost use Rattle.warm_c.specs.Visits.{Begins, BeginsAbsorb, BeginsLoad, BeginsReceive, EndsVisit};
+ghost use Rattle.warm_c.specs.Visits.{BeginsVisit, BeginsAbsorb, BeginsLoad, BeginsReceive, EndsVisit};
 ghost use Rattle.warm_c.specs.Visits.{EntersNode, HandsOutNext, ListsCopy, NamesShard, OpensVisits};
 ghost use Rattle.warm_c.specs.Visits.{SavesCopy, SaysKept, SaysResult};
 
@@ -90,7 +90,7 @@ pub extern "C" fn visit_absorb(
 /// Allocation-free.
 #[unsafe(no_mangle)]
 pub extern "C" fn visit_raise(alloc: Global, handle: &mut VisitHandle, time: u64) -> i32
-    ensures { OnHandle (Surely (Begins (λ id n. raise_visit id n time))) handle.old.held.visit
+    ensures { OnHandle (Surely (BeginsVisit (λ id n. raise_visit id n time))) handle.old.held.visit
         result handle.new.held.visit }
 {
     let Some(mut visit) = handle.take(alloc) else {
@@ -103,7 +103,7 @@ pub extern "C" fn visit_raise(alloc: Global, handle: &mut VisitHandle, time: u64
 /// Begins a visit that collects the digests and the latest horizon of the shards, to be handed out.
 #[unsafe(no_mangle)]
 pub extern "C" fn visit_offer(alloc: Global, handle: &mut VisitHandle) -> i32
-    ensures { OnHandle (Surely (Begins offer_visit)) handle.old.held.visit result
+    ensures { OnHandle (Surely (BeginsVisit offer_visit)) handle.old.held.visit result
         handle.new.held.visit }
 {
     let Some(mut visit) = handle.take(alloc) else {
@@ -139,7 +139,7 @@ pub extern "C" fn visit_receive(
 /// [`visit_save`].
 #[unsafe(no_mangle)]
 pub extern "C" fn visit_copy(alloc: Global, handle: &mut VisitHandle) -> i32
-    ensures { OnHandle (Surely (Begins copy_visit)) handle.old.held.visit result
+    ensures { OnHandle (Surely (BeginsVisit copy_visit)) handle.old.held.visit result
         handle.new.held.visit }
 {
     let Some(mut visit) = handle.take(alloc) else {
@@ -158,15 +158,14 @@ pub extern "C" fn visit_copy(alloc: Global, handle: &mut VisitHandle) -> i32
 /// - 81: the file was not read.
 /// - 1: an allocation failed.
 #[unsafe(no_mangle)]
-pub extern "C" fn visit_load(
-    alloc: Global,
-    handle: &mut VisitHandle,
-    fd: i32,
-    length: u64,
-) -> i32
+pub extern "C" fn visit_load(alloc: Global, handle: &mut VisitHandle, fd: i32, length: u64) -> i32
     ensures { OnHandle (BeginsLoad None) handle.old.held.visit result handle.new.held.visit }
 {
-    on_visit(alloc, handle, |visit| visit.load(alloc, Descriptor::new(fd), length))
+    on_visit(
+        alloc,
+        handle,
+        |visit| visit.load(alloc, Descriptor::new(fd), length),
+    )
 }
 
 /// Returns whether the visit wants to be let into a shard, and writes which; else `shard` is

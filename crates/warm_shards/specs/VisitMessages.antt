@@ -11,22 +11,22 @@ abbrev pub idle_visit : ℕ → ℕ → VisitState
 idle_visit id count = begun id count [] nothing ends
 
 -- the first of the messages that are made
-abbrev pub first_of : Made → Option Message
-first_of (answered (message ∷ messages)) = Some message
-first_of made = None
+abbrev pub first_made : Made → Option Message
+first_made (answered (message ∷ messages)) = Some message
+first_made made = None
 
 abbrev pub first_message : VisitState → Option Message
-first_message v = first_of v.made
+first_message v = first_made v.made
 
 -- What comes last, once no errand and no other message is left: the request behind an answer, or
 -- what was offered.
-abbrev pub last_of : ℕ → Made → List Errand → After → Option Message
-last_of id (answered []) [] (requests message) = Some message
-last_of id (gathered horizon table) [] ends = Some (Digest id horizon table)
-last_of id made plan after = None
+abbrev pub final_made : ℕ → Made → List Errand → After → Option Message
+final_made id (answered []) [] (requests message) = Some message
+final_made id (gathered horizon table) [] ends = Some (Digest id horizon table)
+final_made id made plan after = None
 
-abbrev pub last_message : VisitState → Option Message
-last_message v = last_of v.id v.made v.plan v.after
+abbrev pub final_message : VisitState → Option Message
+final_message v = final_made v.id v.made v.plan v.after
 
 -- the visit without its first message; or else, if no errand is left, without the request
 abbrev pub without_of : Made → List Errand → After → VisitState → VisitState
