@@ -80,10 +80,10 @@ impl OpenVisit {
     }
 
     /// Begins [`Visit::offer`].
-    pub fn offer(&mut self)
+    pub fn offer(&mut self, alloc: Global)
         ensures { BeginsVisit offer_visit self.old self.new }
     {
-        self.visit = Visit::offer(self.visit.id(), self.visit.count());
+        self.visit = Visit::offer(alloc, self.visit.id(), self.visit.count());
     }
 
     /// Begins [`Visit::copy`].

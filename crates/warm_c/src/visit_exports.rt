@@ -109,7 +109,7 @@ pub extern "C" fn visit_offer(alloc: Global, handle: &mut VisitHandle) -> i32
     let Some(mut visit) = handle.take(alloc) else {
         return closed();
     };
-    visit.offer();
+    visit.offer(alloc);
     put_back(handle, visit, Ok(()))
 }
 

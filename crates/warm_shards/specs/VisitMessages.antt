@@ -4,11 +4,11 @@ use Rattle.warm_history.specs.Histories.{HistoryView}
 use Rattle.warm_frames.specs.declared.message.Message.{Message}
 use Rattle.warm_frames.specs.declared.message.Message.TheVariants.{Digest}
 use Rattle.warm_shards.specs.Visits.{After, Errand, Made, VisitState, answered, begun, ends, gathered}
-use Rattle.warm_shards.specs.Visits.{joined, nothing, requests}
+use Rattle.warm_shards.specs.Visits.{joined, raised, requests}
 
--- a visit of a replica in so many shards that has nothing to do
+-- a visit of a replica in so many shards that has nothing to do: it raises none of them
 abbrev pub idle_visit : ℕ → ℕ → VisitState
-idle_visit id count = begun id count [] nothing ends
+idle_visit id count = begun id count [] (raised None) ends
 
 -- the first of the messages that are made
 abbrev pub first_made : Made → Option Message
