@@ -1,14 +1,13 @@
 /*
  * nodes.h: the proved part of the library, for the files of c/ alone. It is not installed.
  *
- * A replica has one node for each shard. Each function below is proved of one node, or of no node
- * at all; the locks of shards, and which node is asked, are in shards.h. What a function above
- * "Parts" does of a node, include/warm.h says of a replica: node_NAME is warm_NAME there, but
- * node_victim is warm_victims and node_close is warm_abandon. proved.h has how the types here
- * become those there. Statuses have the same numbers, and what the header says of refused calls and
- * of pointers holds for all of them.
+ * A replica has one node for each shard. Each function below is proved of one node, or of a visit;
+ * the locks of shards are in shards.h. What a function of the first list does of a node,
+ * include/warm.h says of a replica: node_NAME is warm_NAME there, but node_victim is warm_victims
+ * and node_close is warm_abandon. proved.h has how the types here become those there. Statuses have
+ * the same numbers, and what the header says of refused calls and of pointers holds for all of them.
  *
- * One call at a time uses a node. The shard of a slot that a function writes is 0; that of a slot
+ * One call at a time uses a handle. The shard of a slot that a function writes is 0; that of a slot
  * that is passed is not looked at. A message is called a frame here, as the proved part calls it.
  */
 #ifndef NODES_H
@@ -84,7 +83,7 @@ int node_history_length(node *handle, size_t *length);
 int node_save(node *handle, int fd);
 int node_load(node *handle, int fd, uint64_t length);
 
-/* What the header does not have. */
+/* What the header does not say of a replica. */
 
 /* Pins a page as node_pin does, and writes where its bytes lie, as node_bytes does.
  * Refused as node_pin is; the slot and the pointer are unchanged then. */
@@ -129,9 +128,9 @@ int node_may_forget(node *handle, uint16_t dev, uint64_t from);
 int node_may_replace(node *handle, uint16_t dev, const node_device *device);
 
 /*
- * Visits. A call of a whole replica is a visit: it names the shard that it wants next, and is let in
- * there. The shard of a page is its bucket (docs/FORMATS.md), modulo the number of shards. Whoever
- * has the locks makes one loop:
+ * Visits. A call of a whole replica is a visit: it names the shard that it wants next, and is let
+ * in there. The shard of a page is its bucket (docs/FORMATS.md), modulo the number of shards.
+ * Whoever has the locks makes one loop:
  *
  *     while (visit_next(of, &number)) visit_enter(of, node of this shard);
  *
@@ -165,14 +164,14 @@ typedef struct node_limits {
     size_t pages, known;
 } node_limits;
 
-/* Begins to receive the message of a frame. All shards take its horizon, and each the entries of its
- * pages; its answers are to be handed out.
+/* Begins to receive the message of a frame. All shards take its horizon, and each the entries of
+ * its pages; its answers are to be handed out.
  * Refused, and the visit before is kept: WARM_TRUNCATED to WARM_BAD_ORDER; WARM_LATE_HORIZON;
  * WARM_LATE_STAMP; WARM_TOO_MANY_PAGES; WARM_MEMORY at any point. */
 int visit_receive(visit *handle, const node_limits *limits, const uint8_t *frame, size_t length);
 
-/* Reads a dump, and begins to join what each shard has of it. Refused, and the visit before is kept,
- * as warm_load is. */
+/* Reads a dump, and begins to join what each shard has of it. Refused, and the visit before is
+ * kept, as warm_load is. */
 int visit_load(visit *handle, int fd, uint64_t length);
 
 /* Returns whether the visit wants to be let into a shard, and writes which. It wants none if its
