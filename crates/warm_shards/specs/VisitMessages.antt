@@ -1,10 +1,11 @@
 -- The messages of a visit, taken out one after the other; and a visit that goes on after a refusal.
-use Rattle.std.specs.Prelude.{ℕ, false, List, [], ◌∷◌, Option, Some, None}
+use Rattle.std.specs.Prelude.{◌≡◌, ℕ, false, List, [], ◌∷◌, ◌++◌, Option, Some, None}
 use Rattle.warm_history.specs.Histories.{HistoryView}
 use Rattle.warm_frames.specs.declared.message.Message.{Message}
 use Rattle.warm_frames.specs.declared.message.Message.TheVariants.{Digest}
-use Rattle.warm_shards.specs.Visits.{After, Errand, Made, VisitState, answered, begun, ends, gathered}
-use Rattle.warm_shards.specs.Visits.{joined, raised, requests}
+use Rattle.warm_gossip.specs.State.{NodeState}
+use Rattle.warm_shards.specs.Visits.{After, Enters, Errand, Made, Said, VisitState, answered, begun}
+use Rattle.warm_shards.specs.Visits.{ends, gathered, joined, raised, requests}
 
 -- a visit of a replica in so many shards that has nothing to do: it raises none of them
 abbrev pub idle_visit : ℕ → ℕ → VisitState
@@ -45,3 +46,23 @@ copied_of made = None
 -- the visit goes on with the errand that was refused
 abbrev pub resumed : VisitState → VisitState
 resumed v = record v { stopped = false }
+
+-- Taken out one after the other
+
+-- the visit with these messages before its own
+abbrev pub put_before : List Message → Made → Made
+put_before taken (answered messages) = answered (taken ++ messages)
+put_before taken made = made
+
+abbrev pub with_taken : List Message → VisitState → VisitState
+with_taken taken v = record v { made = put_before taken v.made }
+
+-- Whoever takes the messages of an answer out as they are made has, with those that are left, the
+-- answer: a visit from which none was taken makes the same entries, and has these before.
+pub record TakenAreTheAnswer : Type 0 where
+  pub enters : (taken messages : List Message) (v w : VisitState) (e : Errand) (said : Said)
+      (old new : NodeState) → v.made ≡ answered messages → Enters v old e said w new
+      → Enters (with_taken taken v) old e said (with_taken taken w) new
+  pub takes : (taken : List Message) (message : Message) (v : VisitState)
+      → first_message v ≡ Some message
+      → with_taken taken v ≡ with_taken (taken ++ message ∷ []) (without_message v)
