@@ -53,7 +53,7 @@ took : (taken : List Message) (message : Message) (v : VisitState) (made : Made)
 took taken message v (answered (m ∷ ms)) is first =
     ap (λ (x : Made). record v { made = put_before taken x }) is
     ∙ ap (λ (x : List Message). record v { made = answered x }) (ap (λ (n : Message). taken ++ n ∷ ms) (some_same first) ∙ sym (append_assoc taken (message ∷ []) ms))
-    ∙ sym (ap (λ (x : Made). with_taken (taken ++ message ∷ []) (without_of x v.plan v.after v)) is)
+    ∙ sym (ap (λ (x : Made). with_taken (taken ++ message ∷ []) (without_of x v.after v)) is)
 took taken message v (answered []) is first = absurd (cc)
 took taken message v nothing is first = absurd (cc)
 took taken message v (raised h) is first = absurd (cc)

@@ -29,14 +29,14 @@ final_made id made plan after = None
 abbrev pub final_message : VisitState → Option Message
 final_message v = final_made v.id v.made v.plan v.after
 
--- the visit without its first message; or else, if no errand is left, without the request
-abbrev pub without_of : Made → List Errand → After → VisitState → VisitState
-without_of (answered (message ∷ messages)) plan after v = record v { made = answered messages }
-without_of (answered []) [] (requests message) v = record v { after = ends }
-without_of made plan after v = v
+-- the visit without its first message; or, if it has none, without the request
+abbrev pub without_of : Made → After → VisitState → VisitState
+without_of (answered (message ∷ messages)) after v = record v { made = answered messages }
+without_of (answered []) (requests message) v = record v { after = ends }
+without_of made after v = v
 
 abbrev pub without_message : VisitState → VisitState
-without_message v = without_of v.made v.plan v.after v
+without_message v = without_of v.made v.after v
 
 -- what a visit that copies has joined so far
 abbrev pub copied_of : Made → Option HistoryView
