@@ -12,10 +12,10 @@ use Rattle.warm_frames.specs.Reading.{GivesReading, read_frame, reserved_by}
 use Rattle.warm_gossip.specs.declared.fault.NodeFault.{NodeFault}
 use Rattle.warm_gossip.specs.declared.fault.NodeFault.TheVariants.{Memory}
 use Rattle.warm_shards.specs.Shards.{IsShardCount}
-use Rattle.warm_shards.specs.VisitMessages.{copied_of, first_message, idle_visit, final_message}
+use Rattle.warm_shards.specs.VisitMessages.{final_message, first_message, idle_visit}
 use Rattle.warm_shards.specs.VisitMessages.{resumed, without_message}
-use Rattle.warm_shards.specs.Visits.{HasEntered, VisitState, absorb_visit, join_visit, kept_of}
-use Rattle.warm_shards.specs.Visits.{next_shard, receive_visit, result_of}
+use Rattle.warm_shards.specs.Visits.{HasEntered, VisitState, absorb_visit, copy_of, join_visit}
+use Rattle.warm_shards.specs.Visits.{kept_of, next_shard, receive_visit, result_of}
 use Rattle.warm_c_base.specs.declared.status.Refusal.{Refusal}
 use Rattle.warm_c_base.specs.declared.status.Refusal.TheVariants.{AlreadyOpen, BadReplica, BadShards}
 use Rattle.warm_c_base.specs.declared.status.Refusal.TheVariants.{Closed, Dump, Frame, Node}
@@ -171,14 +171,14 @@ HandsOutNext before len after len' old ending new =
 
 -- the visit has copied nothing
 abbrev pub HasNoCopy : OpenVisit → Type 0
-HasNoCopy v = copied_of v.visit.made ≡ None
+HasNoCopy v = copy_of v.visit.made ≡ None
 
 -- The hottest pages of the copy stand at the start of the buffer, and their number is given. Or
 -- there is none, or an allocation failed, and nothing is written. The visit is as it was.
 abbrev pub ListsCopy : List WarmPage → ℕ → List WarmPage → ℕ → OpenVisit → Ending → OpenVisit
     → Type 0
 ListsCopy before count after number old (Ok given) new =
-    (h : HistoryView) × (copied_of old.visit.made ≡ Some h)
+    (h : HistoryView) × (copy_of old.visit.made ≡ Some h)
     × (pages : List PageId) × IsWarmUp h (length before) pages
     × (after ≡ with_start (map c_page pages) before) × (number ≡ length pages) × (new ≡ old)
 ListsCopy before count after number old (Err Closed) new = HasNoCopy old
@@ -189,7 +189,7 @@ ListsCopy before count after number old (Err why) new = ⊥
 
 -- The visit is as it was. Of what a file then holds nothing can be said.
 abbrev pub SavesCopy : OpenVisit → Ending → OpenVisit → Type 0
-SavesCopy old (Ok given) new = (h : HistoryView) × (copied_of old.visit.made ≡ Some h)
+SavesCopy old (Ok given) new = (h : HistoryView) × (copy_of old.visit.made ≡ Some h)
     × (new ≡ old)
 SavesCopy old (Err Closed) new = HasNoCopy old × (new ≡ old)
 SavesCopy old (Err why) new = SaveRefused why × (new ≡ old)

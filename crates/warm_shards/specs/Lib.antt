@@ -13,3 +13,4 @@ pub mod Visits
 pub mod VisitLaws
 pub mod VisitReads
 pub mod VisitParts
+pub mod VisitMessages

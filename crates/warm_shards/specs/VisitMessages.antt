@@ -1,11 +1,10 @@
 -- The messages of a visit, taken out one after the other; and a visit that goes on after a refusal.
 use Rattle.std.specs.Prelude.{◌≡◌, ℕ, false, List, [], ◌∷◌, ◌++◌, Option, Some, None}
-use Rattle.warm_history.specs.Histories.{HistoryView}
 use Rattle.warm_frames.specs.declared.message.Message.{Message}
 use Rattle.warm_frames.specs.declared.message.Message.TheVariants.{Digest}
 use Rattle.warm_gossip.specs.State.{NodeState}
 use Rattle.warm_shards.specs.Visits.{After, Enters, Errand, Made, Said, VisitState, answered, begun}
-use Rattle.warm_shards.specs.Visits.{ends, gathered, joined, raised, requests}
+use Rattle.warm_shards.specs.Visits.{ends, gathered, raised, requests}
 
 -- a visit of a replica in so many shards that has nothing to do: it raises none of them
 abbrev pub idle_visit : ℕ → ℕ → VisitState
@@ -37,11 +36,6 @@ without_of made after v = v
 
 abbrev pub without_message : VisitState → VisitState
 without_message v = without_of v.made v.after v
-
--- what a visit that copies has joined so far
-abbrev pub copied_of : Made → Option HistoryView
-copied_of (joined h) = Some h
-copied_of made = None
 
 -- the visit goes on with the errand that was refused
 abbrev pub resumed : VisitState → VisitState
