@@ -5,11 +5,7 @@
  * proved; c/check tests it.
  */
 #define _POSIX_C_SOURCE 200809L /* pthread_mutex_t */
-#include "fd_calls.h"
 #include "shards.h"
-#include "sync_once.h"
-
-#include <string.h>
 
 /* Lets a visit into the shards that it wants, one after the other, and returns what came of it. */
 static int go_through(opened *its, visit *of) {
