@@ -88,6 +88,7 @@ abbrev pub unless_waits : Option Message → Option ℕ → Option ℕ
 unless_waits None shard = shard
 unless_waits (Some message) shard = None
 
+-- the shard into which the visit is to be let next
 abbrev pub wanted_shard : VisitState → Option ℕ
 wanted_shard v = unless_waits (first_message v) (next_shard v)
 
@@ -165,6 +166,7 @@ HandsOut (Some message) before len after len' old (Ok given) new =
 HandsOut (Some message) before len after len' old (Err why) new =
     PutsFrame message before len after len' (Err why) × (new ≡ old)
 
+-- the same of what waits
 abbrev pub HandsOutNext : List ℕ → ℕ → List ℕ → ℕ → OpenVisit → Ending → OpenVisit → Type 0
 HandsOutNext before len after len' old ending new =
     HandsOut (waiting_in old.visit) before len after len' old ending new
