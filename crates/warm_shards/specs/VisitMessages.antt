@@ -15,6 +15,7 @@ abbrev pub first_made : Made → Option Message
 first_made (answered (message ∷ messages)) = Some message
 first_made made = None
 
+-- the first message that a visit has made
 abbrev pub first_message : VisitState → Option Message
 first_message v = first_made v.made
 
@@ -25,6 +26,7 @@ final_made id (answered []) [] (requests message) = Some message
 final_made id (gathered horizon table) [] ends = Some (Digest id horizon table)
 final_made id made plan after = None
 
+-- what comes last of a visit
 abbrev pub final_message : VisitState → Option Message
 final_message v = final_made v.id v.made v.plan v.after
 
@@ -34,6 +36,7 @@ without_of (answered (message ∷ messages)) after v = record v { made = answere
 without_of (answered []) (requests message) v = record v { after = ends }
 without_of made after v = v
 
+-- the visit without the message that is handed out
 abbrev pub without_message : VisitState → VisitState
 without_message v = without_of v.made v.after v
 
@@ -43,11 +46,12 @@ resumed v = record v { stopped = false }
 
 -- Taken out one after the other
 
--- the visit with these messages before its own
+-- what is made, with these messages before it
 abbrev pub put_before : List Message → Made → Made
 put_before taken (answered messages) = answered (taken ++ messages)
 put_before taken made = made
 
+-- the visit with those that were taken before its own
 abbrev pub with_taken : List Message → VisitState → VisitState
 with_taken taken v = record v { made = put_before taken v.made }
 
