@@ -43,3 +43,4 @@ pub mod VisitSweeps
 pub mod VisitReadsTasks
 pub mod VisitGiven
 pub mod VisitLawsHold
+pub mod VisitReceives

@@ -94,9 +94,9 @@ visit_of id count time rising shard work kept stopped = record {
 }
 
 -- what it reads is of the same shards, was not refused, and no horizon that a shard kept
-pub record IsReader (id count : ℕ) (reading : VisitState) : Type 0 where
-  pub id : reading.id ≡ id
-  pub count : reading.count ≡ count
+pub record IsReader (number shards : ℕ) (reading : VisitState) : Type 0 where
+  pub id : reading.id ≡ number
+  pub count : reading.count ≡ shards
   pub going : reading.stopped ≡ false
   pub made : IsRead reading.made
 

@@ -1,12 +1,13 @@
 //! What a visit reads of shards: their digests, the entries of buckets, or all that they know.
-ghost use Rattle.std.specs.Prelude.{◌≡◌, ◌≢◌, ◌<◌, ◌≤◌, ℕ, [], IfSome, None};
+ghost use Rattle.std.specs.Prelude.{◌≡◌, ◌≢◌, ◌<◌, ◌≤◌, ℕ, [], if◌then◌else◌, nat_lt};
+ghost use Rattle.std.specs.Prelude.{IfOk, IfSome, None, Some};
 ghost use Rattle.warm_frames.specs.declared.layout.TheConstants.{DIGEST_SIZE};
-ghost use Rattle.warm_shards.specs.Visits.{Compares, VisitState, answered, at_each, begun};
-ghost use Rattle.warm_shards.specs.Visits.{compares, copy_visit, ends, next_shard, no_offer};
-ghost use Rattle.warm_shards.specs.Visits.{offer_visit, offering, send_plan};
+ghost use Rattle.warm_shards.specs.Visits.{Compares, VisitState, answered, answers_of, at_each};
+ghost use Rattle.warm_shards.specs.Visits.{begun, compares, copy_of, copy_visit, ends, next_shard};
+ghost use Rattle.warm_shards.specs.Visits.{no_offer, offer_of, offer_visit, offering, send_plan};
 ghost use Rattle.warm_shards.specs.VisitReads.{GathersOne, IsPage, IsReading, ReadsOne};
-ghost use Rattle.warm_shards.specs.VisitReads.{copying_visit, gathered_in, reading_of};
-ghost use Rattle.warm_shards.specs.VisitReads.{sending_visit};
+ghost use Rattle.warm_shards.specs.VisitReads.{copying_visit, gathered_in};
+ghost use Rattle.warm_shards.specs.VisitReads.{reading_of, sending_visit, waits_for};
 
 use crate::gathering::Gathering;
 use crate::sending::{Sending, Wanted};
@@ -14,7 +15,7 @@ use std::alloc::{AllocError, Global};
 use std::marker::Model;
 use warm_devices::PageDevice;
 use warm_digest::differing;
-use warm_frames::{DIGEST_SIZE, DigestTable};
+use warm_frames::{DIGEST_SIZE, DigestTable, Message};
 use warm_gossip::{Node, NodeFault};
 use warm_history::History;
 use warm_stamps::{BUCKETS, BucketSet, ReplicaId};
@@ -144,4 +145,173 @@ fn enter_task<D: PageDevice>(
         }
         Task::Copy(copying) => copying.copy(node, count),
     }
+}
+
+impl Reading {
+    // With no digest yet.
+    fn gathers(
+        alloc: Global,
+        id: ReplicaId,
+        count: usize,
+        waiting: Option<DigestTable>,
+    ) -> Reading
+        requires { 0 < count }
+        ensures { result ≡ begun id count (at_each count offering) no_offer (waits_for waiting) }
+    {
+        let gathering = Gathering {
+            shard: 0,
+            horizon: 0,
+            digests: [[0; DIGEST_SIZE]; BUCKETS as usize],
+            waiting,
+        };
+        Reading {
+            alloc,
+            id,
+            count,
+            task: Task::Gather(gathering),
+        }
+    }
+
+    /// Each shard offers its digests. Allocation-free.
+    pub(crate) fn offers(alloc: Global, id: ReplicaId, count: usize) -> Reading
+        requires { 0 < count }
+        ensures { result ≡ offer_visit id count }
+    {
+        Reading::gathers(alloc, id, count, None)
+    }
+
+    /// Each shard offers its digests, and these are compared: the buckets that differ are sent, and
+    /// then requested. Allocation-free.
+    pub(crate) fn compares(
+        alloc: Global,
+        id: ReplicaId,
+        count: usize,
+        digests: DigestTable,
+    ) -> Reading
+        requires { 0 < count }
+        ensures { result ≡ begun id count (at_each count offering) no_offer (compares digests) }
+    {
+        Reading::gathers(alloc, id, count, Some(digests))
+    }
+
+    /// The requested buckets are sent, each by its shard. Allocation-free.
+    pub(crate) fn sends(
+        alloc: Global,
+        id: ReplicaId,
+        count: usize,
+        request: BucketSet,
+    ) -> Reading
+        requires { 0 < count }
+        ensures { result ≡ begun id count (send_plan count request) (answered []) ends }
+    {
+        Reading {
+            alloc,
+            id,
+            count,
+            task: Task::Send(Sending::of(alloc, request, None)),
+        }
+    }
+
+    /// The history of each shard is copied. Allocation-free.
+    pub(crate) fn copies(alloc: Global, id: ReplicaId, count: usize) -> Reading
+        requires { 0 < count }
+        ensures { result ≡ copy_visit id count }
+    {
+        let copying = Copying {
+            shard: 0,
+            history: History::new(alloc),
+        };
+        Reading {
+            alloc,
+            id,
+            count,
+            task: Task::Copy(copying),
+        }
+    }
+
+    /// The shard of the next errand, if there is one.
+    pub(crate) fn next(&self) -> Option<usize>
+        ensures value { result ≡ next_shard self.now }
+        ensures below { IfSome result (λ shard. shard < self.now.count) }
+    {
+        next_in(&self.task, self.count)
+    }
+
+    /// Runs the next errand, at the node of its shard. If the node has no memory for it, nothing
+    /// changes.
+    ///
+    /// `Memory` occurs only if an allocation fails.
+    pub(crate) fn enter<D: PageDevice>(&mut self, node: &mut Node<D>) -> Result<(), NodeFault>
+        requires { next_shard self.old ≢ None }
+        ensures { ReadsOne self.old node.old result self.new node.new }
+    {
+        enter_task(self.alloc, self.id, self.count, &mut self.task, node)
+    }
+
+    /// What all shards offer, once no errand is left.
+    pub(crate) fn offer(&self) -> Option<Message>
+        ensures { result ≡ offer_of self.now.id self.now.made }
+    {
+        let Task::Gather(gathering) = &self.task else {
+            return None;
+        };
+        Some(Message::Digest {
+            sender: self.id,
+            horizon: gathering.horizon,
+            digests: DigestTable::of(gathering.digests),
+        })
+    }
+
+    /// The answer, once no errand is left.
+    ///
+    /// `AllocError` occurs only if an allocation fails.
+    pub(crate) fn into_answers(self) -> Result<Vec<Message>, AllocError>
+        ensures { IfOk result (λ messages. messages.items ≡ answers_of self.made self.after) }
+    {
+        let Reading {
+            alloc,
+            id,
+            count: _,
+            task,
+        } = self;
+        let Task::Send(sending) = task else {
+            return Ok(Vec::new(alloc));
+        };
+        sending.into_messages(id)
+    }
+
+    /// The history of all shards, once no errand is left.
+    pub(crate) fn into_history(self) -> Option<History>
+        ensures { result ≡ copy_of self.made }
+    {
+        let Reading { task, .. } = self;
+        let Task::Copy(copying) = task else {
+            return None;
+        };
+        let Copying { shard: _, history } = copying;
+        Some(history)
+    }
+}
+
+// The shard of the next errand of a task, if there is one.
+fn next_in(task: &Task, count: usize) -> Option<usize>
+    requires { 0 < count }
+    ensures value { (id : ℕ) → result ≡ next_shard (reading_of id count task.now) }
+    ensures below { IfSome result (λ shard. shard < count) }
+{
+    match task {
+        Task::Gather(gathering) => below(gathering.shard, count),
+        Task::Send(sending) => match sending.bucket {
+            Some(bucket) => Some(usize::from(bucket.get()) % count),
+            None => None,
+        },
+        Task::Copy(copying) => below(copying.shard, count),
+    }
+}
+
+/// The shard of this number, if there is one.
+pub(crate) fn below(shard: usize, count: usize) -> Option<usize>
+    ensures { result ≡ (if nat_lt shard count then Some shard else None) }
+{
+    if shard < count { Some(shard) } else { None }
 }

@@ -1,10 +1,10 @@
 //! The entries of buckets, sent in portions: each is a message.
-ghost use Rattle.std.specs.Prelude.{◌≡◌, ◌↔◌, ℕ, [], IsTrue, OnErr, OnOk, Some};
+ghost use Rattle.std.specs.Prelude.{◌≡◌, ◌↔◌, ℕ, [], IfOk, IsTrue, OnErr, OnOk, Some};
 ghost use Rattle.warm_frames.specs.Limits.{entries_in};
 ghost use Rattle.warm_peer.specs.Chunks.{last_page};
 ghost use Rattle.warm_shards.specs.VisitReads.{HasNoEntries, IsPage, ReadsOne, asks_for};
 ghost use Rattle.warm_shards.specs.VisitReads.{sending_visit};
-ghost use Rattle.warm_shards.specs.Visits.{answered, begun, send_plan, with_message};
+ghost use Rattle.warm_shards.specs.Visits.{answered, answers_of, begun, send_plan, with_message};
 
 use std::alloc::{AllocError, Global};
 use warm_devices::PageDevice;
@@ -12,7 +12,7 @@ use warm_frames::Message;
 use warm_gossip::{Node, NodeFault};
 use warm_history::laws::prove_is_history;
 use warm_peer::SentPortion;
-use warm_stamps::{Bucket, BucketSet, Buckets, PageId};
+use warm_stamps::{Bucket, BucketSet, Buckets, PageId, ReplicaId};
 
 // A request for the buckets that differ.
 #[derive(Drop)]
@@ -114,5 +114,30 @@ impl Sending {
         self.bucket = self.later.next();
         self.after = None;
         Ok(())
+    }
+
+    /// All messages, and then the request.
+    ///
+    /// `AllocError` occurs only if an allocation fails.
+    pub(crate) fn into_messages(self, id: ReplicaId) -> Result<Vec<Message>, AllocError>
+        ensures { IfOk result (λ messages. messages.items
+            ≡ answers_of (answered self.messages.items) (asks_for id self.want)) }
+    {
+        let Sending {
+            bucket: _,
+            later: _,
+            after: _,
+            messages,
+            want,
+        } = self;
+        let mut messages = messages;
+        if let Some(Wanted { horizon, request }) = want {
+            messages.push(Message::Want {
+                sender: id,
+                horizon,
+                request,
+            })?;
+        }
+        Ok(messages)
     }
 }

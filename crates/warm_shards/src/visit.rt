@@ -2,20 +2,23 @@
 //! errand, and enters that with one step.
 //!
 //! Whoever has the shards drives it: a loop over nodes, threads by turns, or C by its locks.
-ghost use Rattle.std.specs.Prelude.{◌≡◌, ◌≢◌, ◌<◌, IfOk, IfSome, None};
+ghost use Rattle.std.specs.Prelude.{◌≡◌, ◌≢◌, ◌<◌, ◌≤◌, false, IfOk, IfSome, None, OnErr};
 ghost use Rattle.warm_history.specs.Histories.{entries_of, history_of_entries_at, references_of};
 ghost use Rattle.warm_shards.specs.Shards.{IsShardCount};
-ghost use Rattle.warm_shards.specs.VisitParts.{earlier};
-ghost use Rattle.warm_shards.specs.Visits.{HasEntered, absorb_visit, entries_left, give_visit};
-ghost use Rattle.warm_shards.specs.Visits.{join_visit, kept_of, next_shard, raise_visit};
-ghost use Rattle.warm_shards.specs.Visits.{result_of};
+ghost use Rattle.warm_shards.specs.VisitParts.{IsReader, earlier, visit_of};
+ghost use Rattle.warm_shards.specs.declared.visit.Work.TheVariants.{Read};
+ghost use Rattle.warm_shards.specs.Visits.{HasEntered, HasEntries, absorb_visit, answers_of};
+ghost use Rattle.warm_shards.specs.Visits.{copy_of, copy_visit, entries_left, give_visit};
+ghost use Rattle.warm_shards.specs.Visits.{join_visit, kept_of, next_shard, offer_of, offer_visit};
+ghost use Rattle.warm_shards.specs.Visits.{raise_visit, receive_visit, result_of};
 
 use crate::batch_parts::parts_of;
 use crate::giving::Parts;
-use crate::reading::Reading;
+use crate::reading::{Reading, below};
 use std::alloc::{AllocError, Global};
 use std::marker::Model;
 use warm_devices::PageDevice;
+use warm_frames::{Message, MessageList};
 use warm_gossip::{Node, NodeFault};
 use warm_history::{Entry, History};
 use warm_stamps::{Reference, ReplicaId};
@@ -194,7 +197,7 @@ impl Visit {
         requires { IsShardCount count }
         ensures { result ≡ offer_visit id count }
     {
-        Visit::reads(id, count, 0, count, Reading::offer(alloc, id, count))
+        Visit::reads(id, count, 0, count, Reading::offers(alloc, id, count))
     }
 
     /// The visit in which the shards receive a message: each is raised to its horizon, and then
@@ -219,13 +222,13 @@ impl Visit {
             Message::Digest {
                 horizon, digests, ..
             } => {
-                let reading = Reading::compare(alloc, id, count, *digests);
+                let reading = Reading::compares(alloc, id, count, *digests);
                 Ok(Visit::reads(id, count, *horizon, 0, reading))
             }
             Message::Want {
                 horizon, request, ..
             } => {
-                let reading = Reading::send(alloc, id, count, *request);
+                let reading = Reading::sends(alloc, id, count, *request);
                 Ok(Visit::reads(id, count, *horizon, 0, reading))
             }
         }
@@ -236,7 +239,7 @@ impl Visit {
         requires { IsShardCount count }
         ensures { result ≡ copy_visit id count }
     {
-        Visit::reads(id, count, 0, count, Reading::copy(alloc, id, count))
+        Visit::reads(id, count, 0, count, Reading::copies(alloc, id, count))
     }
 
     /// The number of the shard of its next errand; `None` if no errand is left, or a shard has
@@ -252,14 +255,10 @@ impl Visit {
             return Some(self.rising);
         }
         match &self.work {
-            Work::Raise => return None,
-            Work::Read(reading) => return reading.next(),
-            Work::Give(_) => {}
+            Work::Raise => None,
+            Work::Give(_) => below(self.shard, self.count),
+            Work::Read(reading) => reading.next(),
         }
-        if self.shard < self.count {
-            return Some(self.shard);
-        }
-        None
     }
 
     /// What the call returns, once no shard is named.
@@ -293,7 +292,7 @@ impl Visit {
     {
         let Visit { work, .. } = self;
         match work {
-            Work::Read(reading) => reading.into_answers(alloc),
+            Work::Read(reading) => Ok(MessageList::of(reading.into_answers()?)),
             _ => Ok(MessageList::of(Vec::new(alloc))),
         }
     }
@@ -303,7 +302,7 @@ impl Visit {
         ensures { result ≡ offer_of self.now.id self.now.made }
     {
         match &self.work {
-            Work::Read(reading) => reading.offered(),
+            Work::Read(reading) => reading.offer(),
             _ => None,
         }
     }
@@ -314,7 +313,7 @@ impl Visit {
     {
         let Visit { work, .. } = self;
         match work {
-            Work::Read(reading) => reading.into_copy(),
+            Work::Read(reading) => reading.into_history(),
             _ => None,
         }
     }
