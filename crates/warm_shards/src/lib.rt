@@ -34,6 +34,7 @@ mod sending;
 mod shards;
 mod shards_of_nodes;
 mod visit;
+mod visit_messages;
 
 pub use answers::fill_digests;
 pub use batch_parts::parts_of;

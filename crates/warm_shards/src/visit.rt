@@ -27,18 +27,18 @@ use warm_stamps::{Reference, ReplicaId};
 /// those before have made.
 #[derive(Drop)]
 pub struct Visit {
-    id: ReplicaId,
-    count: usize,
+    pub(crate) id: ReplicaId,
+    pub(crate) count: usize,
     // The time to which each shard is raised first.
-    time: u64,
+    pub(crate) time: u64,
     // The next shard to be raised; the count of shards if none is.
-    rising: usize,
+    pub(crate) rising: usize,
     // The shard of the first errand behind that; the count of shards if there is none.
-    shard: usize,
-    work: Work,
+    pub(crate) shard: usize,
+    pub(crate) work: Work,
     // The earliest horizon that a shard kept, of those raised.
-    kept: Option<u64>,
-    stopped: bool,
+    pub(crate) kept: Option<u64>,
+    pub(crate) stopped: bool,
 }
 
 // What a visit does once all shards are raised that it raises.
