@@ -34,7 +34,6 @@ mod sending;
 mod shards;
 mod shards_of_nodes;
 mod visit;
-mod visit_messages;
 
 pub use answers::fill_digests;
 pub use batch_parts::parts_of;

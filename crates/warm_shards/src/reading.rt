@@ -23,10 +23,10 @@ use warm_stamps::{BUCKETS, BucketSet, ReplicaId};
 /// What a visit reads of shards, and what it has so far. Contracts see it as a visit.
 #[derive(Drop)]
 pub(crate) struct Reading {
-    pub(crate) alloc: Global,
-    pub(crate) id: ReplicaId,
-    pub(crate) count: usize,
-    pub(crate) task: Task,
+    alloc: Global,
+    id: ReplicaId,
+    count: usize,
+    task: Task,
 }
 
 #[derive(Drop)]

@@ -27,18 +27,18 @@ use warm_stamps::{Reference, ReplicaId};
 /// those before have made.
 #[derive(Drop)]
 pub struct Visit {
-    pub(crate) id: ReplicaId,
-    pub(crate) count: usize,
+    id: ReplicaId,
+    count: usize,
     // The time to which each shard is raised first.
-    pub(crate) time: u64,
+    time: u64,
     // The next shard to be raised; the count of shards if none is.
-    pub(crate) rising: usize,
+    rising: usize,
     // The shard of the first errand behind that; the count of shards if there is none.
-    pub(crate) shard: usize,
-    pub(crate) work: Work,
+    shard: usize,
+    work: Work,
     // The earliest horizon that a shard kept, of those raised.
-    pub(crate) kept: Option<u64>,
-    pub(crate) stopped: bool,
+    kept: Option<u64>,
+    stopped: bool,
 }
 
 // What a visit does once all shards are raised that it raises.
