@@ -5,7 +5,7 @@
  * the locks of shards are in shards.h. What a function of the first list does of a node,
  * include/warm.h says of a replica: node_NAME is warm_NAME there, but node_victim is warm_victims
  * and node_close is warm_abandon. proved.h has how the types here become those there. Statuses have
- * the same numbers, and what the header says of refused calls and of pointers holds for all of them.
+ * the same numbers, and what the header says of refused calls and of pointers holds for all.
  *
  * One call at a time uses a handle. The shard of a slot that a function writes is 0; that of a slot
  * that is passed is not looked at. A message is called a frame here, as the proved part calls it.

@@ -1,8 +1,8 @@
 /*
  * whole_calls.c: the calls of include/warm.h on a whole replica: its history, its messages, its
  * devices and what it has counted. What a call of the history does, and in which shard, a visit
- * decides, which is proved (nodes.h): here it is let into one shard after the other. Nothing here is
- * proved; c/check tests it.
+ * decides, which is proved (nodes.h): here it is let into one shard after the other. Nothing here
+ * is proved; c/check tests it.
  */
 #define _POSIX_C_SOURCE 200809L /* pthread_mutex_t */
 #include "shards.h"

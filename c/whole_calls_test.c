@@ -17,7 +17,7 @@ static void test_batches(void) {
     MUST(known(&handle) == 0); /* none, though it is the last */
     seen[127].replica = 1;
     size_t before = 0;
-    for (size_t grants = 1; grants < 5; grants++) { /* the visit has one, and then the first shards */
+    for (size_t grants = 1; grants < 5; grants++) { /* the visit has one, then the first shards */
         granted = grants;
         MUST(warm_absorb(&handle, seen, 128) == WARM_MEMORY);
         granted = SIZE_MAX;

@@ -17,8 +17,9 @@ use Rattle.warm_shards.specs.VisitMessages.{resumed, without_message}
 use Rattle.warm_shards.specs.Visits.{HasEntered, VisitState, absorb_visit, copy_of, join_visit}
 use Rattle.warm_shards.specs.Visits.{kept_of, next_shard, receive_visit, result_of}
 use Rattle.warm_c_base.specs.declared.status.Refusal.{Refusal}
-use Rattle.warm_c_base.specs.declared.status.Refusal.TheVariants.{AlreadyOpen, BadReplica, BadShards}
-use Rattle.warm_c_base.specs.declared.status.Refusal.TheVariants.{Closed, Dump, Frame, Node}
+use Rattle.warm_c_base.specs.declared.status.Refusal.TheVariants.{AlreadyOpen, BadReplica}
+use Rattle.warm_c_base.specs.declared.status.Refusal.TheVariants.{BadShards, Closed, Dump, Frame}
+use Rattle.warm_c_base.specs.declared.status.Refusal.TheVariants.{Node}
 use Rattle.warm_c_base.specs.declared.values.WarmPage.{WarmPage}
 use Rattle.warm_c_base.specs.declared.values.WarmReference.{WarmReference}
 use Rattle.warm_c_base.specs.Statuses.{code_of}
@@ -114,7 +115,8 @@ abbrev pub EntersNode : Option OpenVisit → Option OpenNode → Option OpenVisi
     → Type 0
 EntersNode None from visit' from' = (visit' ≡ None) × (from' ≡ from)
 EntersNode (Some v) None visit' from' = (visit' ≡ Some v) × (from' ≡ None)
-EntersNode (Some v) (Some node) (Some w) (Some node') = EntersIf (wanted_shard v.visit) v node w node'
+EntersNode (Some v) (Some node) (Some w) (Some node') =
+    EntersIf (wanted_shard v.visit) v node w node'
 EntersNode (Some v) (Some node) visit' from' = ⊥
 
 -- what a call ends with that returns this

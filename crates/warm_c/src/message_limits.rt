@@ -1,7 +1,7 @@
 //! The limits by which a message is refused before anything changes.
 ghost use Rattle.std.specs.Prelude.{◌↔◌, length, IfErr, IsTrue, OnOk};
 ghost use Rattle.warm_frames.specs.Limits.{entries_in};
-ghost use Rattle.warm_c.specs.MessageLimits.{HasRoom, ExceedsLimits, KeepsLimits};
+ghost use Rattle.warm_c.specs.MessageLimits.{ExceedsLimits, HasRoom, KeepsLimits};
 
 use crate::frame_calls::entry_count;
 use warm_c_base::Refusal;
@@ -37,7 +37,8 @@ fn has_room(limits: &NodeLimits, entries: usize) -> bool
 /// In this order:
 /// - `Late`: the horizon is later than one of its two limits, or else a stamp is later than the
 ///   limit of times.
-/// - `TooManyPages`: the history would know more pages than it may, if each entry were of a new one.
+/// - `TooManyPages`: the history would know more pages than it may, if each entry were of a new
+///   one.
 pub fn check_limits(message: &Message, limits: &NodeLimits) -> Result<(), Refusal>
     ensures kept { OnOk result (KeepsLimits limits.now message.now) }
     ensures beyond { IfErr result (ExceedsLimits limits.now message.now) }

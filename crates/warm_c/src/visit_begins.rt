@@ -5,7 +5,7 @@ ghost use Rattle.warm_shards.specs.Visits.{copy_visit, offer_visit, raise_visit}
 ghost use Rattle.warm_c_base.specs.declared.status.Refusal.TheVariants.{BadReplica};
 ghost use Rattle.warm_c_base.specs.Values.{reference_of};
 ghost use Rattle.warm_c.specs.Calls.{AreOfReplicas, BatchRefused, HasBadReplica};
-ghost use Rattle.warm_c.specs.Visits.{BeginsVisit, BeginsAbsorb, BeginsLoad, BeginsReceive};
+ghost use Rattle.warm_c.specs.Visits.{BeginsAbsorb, BeginsLoad, BeginsReceive, BeginsVisit};
 
 use crate::message_limits::{NodeLimits, check_limits};
 use crate::open_visit::OpenVisit;
@@ -127,7 +127,8 @@ impl OpenVisit {
         Ok(())
     }
 
-    /// Reads the dump that the first bytes of a file are, and begins [`Visit::join`] of its history.
+    /// Reads the dump that the first bytes of a file are, and begins [`Visit::join`] of its
+    /// history.
     ///
     /// # Errors
     /// In this order; nothing has changed.

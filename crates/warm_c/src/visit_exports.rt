@@ -6,9 +6,9 @@
 ghost use Rattle.std.specs.Prelude.{◌≡◌, Bool, None, Some};
 ghost use Rattle.warm_shards.specs.Visits.{copy_visit, offer_visit, raise_visit};
 ghost use Rattle.warm_c.specs.Handles.{OnHandle, Surely};
-ghost use Rattle.warm_c.specs.Visits.{BeginsVisit, BeginsAbsorb, BeginsLoad, BeginsReceive, EndsVisit};
-ghost use Rattle.warm_c.specs.Visits.{EntersNode, HandsOutNext, ListsCopy, NamesShard, OpensVisits};
-ghost use Rattle.warm_c.specs.Visits.{SavesCopy, SaysKept, SaysResult};
+ghost use Rattle.warm_c.specs.Visits.{BeginsAbsorb, BeginsLoad, BeginsReceive, BeginsVisit};
+ghost use Rattle.warm_c.specs.Visits.{EndsVisit, EntersNode, HandsOutNext, ListsCopy, NamesShard};
+ghost use Rattle.warm_c.specs.Visits.{OpensVisits, SavesCopy, SaysKept, SaysResult};
 
 use crate::called::closed;
 use crate::handle::Handle;
