@@ -16,9 +16,12 @@
 //! - [`node_open`] and [`node_close`] create and drop the node. Each of the other functions that
 //!   take a handle returns 64 on a closed one, and changes nothing.
 //!
-//! Devices, files, and what crosses to C by value are of `warm_c_base`. c/fd_calls.c has what is not
-//! proved: the calls of the system on the descriptors. c/heap.c, where its memory is from, is not
-//! proved either.
+//! A call of a whole replica, of one node or more, is a visit of `warm_shards`, which has a handle
+//! of its own kind: [`visit_exports`].
+//!
+//! Devices, files, and what crosses to C by value are of `warm_c_base`. c/fd_calls.c has what is
+//! not proved: the calls of the system on the descriptors. c/heap.c, where its memory is from, is
+//! not proved either.
 //!
 //! Nothing is undefined for any handle, slot or length, as long as the caller keeps what the header
 //! asks: a handle that was all zeros before its first call, and that only these functions change;
