@@ -415,6 +415,20 @@ int node_last_failure(node *of, bool *found, node_failure *failure) {
 
 /* ---- histories and frames ---- */
 
+static bool fake_replicas(const node_reference *references, size_t count) {
+    for (size_t at = 0; at < count; at++)
+        if (references[at].replica == 0 || references[at].replica > 64) return false;
+    return true;
+}
+
+int node_absorb(node *of, const node_reference *references, size_t count) {
+    fake *its = fake_in(of);
+    if (!fake_replicas(references, count)) return fake_out(of, WARM_BAD_REPLICA);
+    if (!fake_memory()) return fake_out(of, WARM_MEMORY);
+    its->known += count;
+    return fake_out(of, WARM_OK);
+}
+
 int node_history_length(node *of, size_t *length) {
     *length = fake_in(of)->known;
     return fake_out(of, WARM_OK);
@@ -577,8 +591,7 @@ void visit_swap(visit *of, visit *other) {
 }
 
 int visit_absorb(visit *of, const node_reference *references, size_t count) {
-    for (size_t at = 0; at < count; at++)
-        if (references[at].replica == 0 || references[at].replica > 64) return WARM_BAD_REPLICA;
+    if (!fake_replicas(references, count)) return WARM_BAD_REPLICA;
     void *block = malloc(1);
     if (block == NULL) return WARM_MEMORY;
     fake_visit *its = fake_begin(of, FAKE_GIVING, block);

@@ -61,6 +61,7 @@ typedef struct node {
 int node_open(node *handle, uint16_t replica, size_t frames, size_t page_size,
     const node_device *devices, size_t device_count);
 void node_close(node *handle);
+int node_absorb(node *handle, const node_reference *references, size_t count);
 int node_pin(node *handle, node_page page, node_slot *slot);
 int node_pin_zeroed(node *handle, node_page page, node_slot *slot);
 int node_unpin(node *handle, node_slot slot);

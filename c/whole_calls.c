@@ -32,11 +32,21 @@ static int end_visit(opened *its, int status) {
 
 /* ---- history ---- */
 
+/* References of one shard, that of the first of them, are a call of its node, as a pin is. */
+static int absorb_in_one(opened *its, const node_reference *batch, size_t count) {
+    shard *in = shard_of(its, (node_page){.no = batch->no, .dev = batch->dev});
+    bool is_locked = enter(its, in);
+    int status = node_absorb(&in->node, batch, count);
+    leave(in, is_locked);
+    return status;
+}
+
 /* A reference of the caller's is one of the proved part (layouts.h). */
 int warm_absorb(warm *handle, const warm_reference *references, size_t count) {
     opened *its = handle->at;
     const node_reference *batch = (const node_reference *)references;
     if (its == NULL) return WARM_CLOSED;
+    if (count == 1 || (count > 0 && its->count == 1)) return absorb_in_one(its, batch, count);
     return end_visit(its, visit_shards(its, visit_absorb(&its->calls, batch, count)));
 }
 

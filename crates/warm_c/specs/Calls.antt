@@ -12,7 +12,7 @@ use Rattle.warm_frames.specs.Encoding.{encoding}
 use Rattle.warm_pool.specs.Unchanged.{KeepsBytes}
 use Rattle.warm_pool.specs.View.{view_of, IsResident}
 use Rattle.warm_gossip.specs.declared.call.Call.{Call}
-use Rattle.warm_gossip.specs.declared.call.Call.TheVariants.{Pin, Unpin}
+use Rattle.warm_gossip.specs.declared.call.Call.TheVariants.{Absorb, Pin, Unpin}
 use Rattle.warm_gossip.specs.declared.call.Call.TheVariants.{Read, Write, Victim, WarmList, WarmStep}
 use Rattle.warm_gossip.specs.declared.call.Reply.{Reply}
 use Rattle.warm_gossip.specs.declared.call.Reply.TheVariants.{Done, Pinned, Bytes}
@@ -28,7 +28,7 @@ use Rattle.warm_c_base.specs.declared.values.WarmPage.{WarmPage}
 use Rattle.warm_c_base.specs.declared.values.WarmReference.{WarmReference}
 use Rattle.warm_c_base.specs.declared.values.WarmSlot.{WarmSlot}
 use Rattle.warm_c_base.specs.Values.{c_page, IsBool, IsOptionalPage, page_of_c, pinned_slot}
-use Rattle.warm_c_base.specs.Values.{slot_of_c, with_start}
+use Rattle.warm_c_base.specs.Values.{reference_of, slot_of_c, with_start}
 
 -- what a call of the library ends with
 abbrev pub Ending : Type 0
@@ -70,6 +70,12 @@ abbrev pub BatchRefused : List WarmReference → Refusal → Type 0
 BatchRefused batch BadReplica = HasBadReplica batch
 BatchRefused batch (Node Memory) = AreOfReplicas batch
 BatchRefused batch why = ⊥
+
+-- the node absorbs the references, or says why not
+abbrev pub Absorbs : List WarmReference → OpenNode → Ending → OpenNode → Type 0
+Absorbs batch old (Ok given) new = Replies (Absorb (map reference_of batch)) old Done new
+Absorbs batch old (Err BadReplica) new = HasBadReplica batch × (new ≡ old)
+Absorbs batch old (Err why) new = RefusedByNode (Absorb (map reference_of batch)) old why new
 
 -- the hottest pages stand at the start of the buffer, and their number is given
 abbrev pub Lists : List WarmPage → ℕ → List WarmPage → ℕ → OpenNode → Ending → OpenNode → Type 0

@@ -30,8 +30,8 @@
 #![tactic(auto)]
 
 ghost use Rattle.std.specs.Prelude.{◌≡◌, None, Some};
-ghost use Rattle.warm_c.specs.Calls.{CountsPages, Lists, Loads, Names, Pins, ReadsSlot, Saves};
-ghost use Rattle.warm_c.specs.Calls.{SaysResident, StepsWarmUp, Unpins, Writes};
+ghost use Rattle.warm_c.specs.Calls.{Absorbs, CountsPages, Lists, Loads, Names, Pins, ReadsSlot};
+ghost use Rattle.warm_c.specs.Calls.{Saves, SaysResident, StepsWarmUp, Unpins, Writes};
 ghost use Rattle.warm_c.specs.CountCalls.{CountsDevice, CountsPool, SaysFailure};
 ghost use Rattle.warm_c.specs.Devices.{Replaces};
 ghost use Rattle.warm_c.specs.Engine.{FlushesDevice, ForgetsPages, NamesDirty, NodeWritesBackPage};
@@ -75,7 +75,7 @@ use crate::opening::open;
 use std::alloc::Global;
 use warm_c_base::{
     Descriptor, PinnedSlot, Refusal, WarmCounters, WarmDevice, WarmDeviceCounters, WarmFailure,
-    WarmPage, WarmSlot, c_bool, page_if, put_dirty, put_page, status_of,
+    WarmPage, WarmReference, WarmSlot, c_bool, page_if, put_dirty, put_page, status_of,
 };
 use warm_gossip::NodeFault;
 
@@ -130,6 +130,23 @@ pub extern "C" fn node_close(alloc: Global, handle: &mut Handle)
     ensures { handle.new.held.node ≡ None }
 {
     let _ = handle.take(alloc);
+}
+
+/// Adds references to the history, all or none.
+///
+/// # Errors
+/// In this order; nothing has changed.
+/// - 67: one of them has a replica's number that is not valid.
+/// - 1: an allocation failed.
+#[unsafe(no_mangle)]
+pub extern "C" fn node_absorb(
+    alloc: Global,
+    handle: &mut Handle,
+    references: &[WarmReference],
+) -> i32
+    ensures { OnHandle (Absorbs references.now) handle.old.held.node result handle.new.held.node }
+{
+    on_open(alloc, handle, |node| node.absorb(alloc, references))
 }
 
 /// Pins a page: reads it into a frame where it is in none, and writes its slot.

@@ -1,12 +1,10 @@
 //! The calls of an open handle that begin a visit, in place of the one before.
-ghost use Rattle.std.specs.Prelude.{◌≡◌, map, IfErr, IfOk, None, OnOk};
+ghost use Rattle.std.specs.Prelude.{◌≡◌, None};
 ghost use Rattle.warm_shards.specs.VisitMessages.{idle_visit};
 ghost use Rattle.warm_shards.specs.Visits.{copy_visit, offer_visit, raise_visit};
-ghost use Rattle.warm_c_base.specs.declared.status.Refusal.TheVariants.{BadReplica};
-ghost use Rattle.warm_c_base.specs.Values.{reference_of};
-ghost use Rattle.warm_c.specs.Calls.{AreOfReplicas, BatchRefused, HasBadReplica};
 ghost use Rattle.warm_c.specs.Visits.{BeginsAbsorb, BeginsLoad, BeginsReceive, BeginsVisit};
 
+use crate::history_calls::references_of;
 use crate::message_limits::{NodeLimits, check_limits};
 use crate::open_visit::OpenVisit;
 use std::alloc::Global;
@@ -16,46 +14,6 @@ use warm_dump::read_dump;
 use warm_frames::decode;
 use warm_history::laws::prove_is_history;
 use warm_shards::Visit;
-use warm_stamps::{PageId, Reference, ReplicaId, Stamp};
-
-// Checks that each reference is of a replica.
-fn check_replicas(batch: &[WarmReference]) -> Result<(), Refusal>
-    ensures good { OnOk result (AreOfReplicas batch.now) }
-    ensures bad { IfErr result (λ why. (why ≡ BadReplica) × HasBadReplica batch.now) }
-{
-    for reference in batch {
-        if let Err(_number) = ReplicaId::new(reference.replica) {
-            return Err(Refusal::BadReplica);
-        }
-    }
-    Ok(())
-}
-
-// The references, as a node knows them.
-fn references_of(alloc: Global, batch: &[WarmReference]) -> Result<Vec<Reference>, Refusal>
-    ensures made { IfOk result (λ references. references.items ≡ map reference_of batch.now) }
-    ensures good { OnOk result (AreOfReplicas batch.now) }
-    ensures refused { IfErr result (BatchRefused batch.now) }
-{
-    check_replicas(batch)?;
-    let mut references = Vec::with_capacity(alloc, batch.len())?;
-    for reference in batch {
-        let Ok(replica) = ReplicaId::new(reference.replica) else {
-            return Err(Refusal::BadReplica);
-        };
-        references.push_reserved(Reference {
-            page: PageId {
-                dev: reference.dev,
-                no: reference.no,
-            },
-            stamp: Stamp {
-                time: reference.time,
-                replica,
-            },
-        });
-    }
-    Ok(references)
-}
 
 impl OpenVisit {
     /// Begins [`Visit::absorb`].

@@ -1,6 +1,6 @@
 use Rattle.std.proofs.Common.{◌≡◌, ◌≤◌, length, map, take, vec_capacity}
 use Rattle.warm_c_base.specs.Values.{reference_of}
-use Rattle.warm_c.proofs.visit_begins.references_of.Given as goal
+use Rattle.warm_c.proofs.history_calls.references_of.Given as goal
 
 -- the references so far, and capacity for all
 abbrev pub invariant-loop-reference : goal.invariant-loop-reference
