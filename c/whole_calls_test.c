@@ -446,7 +446,9 @@ static void test_horizons(void) {
     uint64_t horizon;
     size_t length;
     open_shards(&handle, 4);
+    granted = 0; /* it takes no memory */
     OK(warm_raise(&handle, 7, &horizon));
+    granted = SIZE_MAX;
     MUST(horizon == 7);
     OK(warm_raise(&handle, 3, &horizon));
     MUST(horizon == 7);
