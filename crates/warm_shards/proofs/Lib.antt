@@ -44,3 +44,4 @@ pub mod VisitReadsTasks
 pub mod VisitGiven
 pub mod VisitLawsHold
 pub mod VisitReceives
+pub mod VisitReadsMessages

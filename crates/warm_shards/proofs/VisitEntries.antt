@@ -1,7 +1,7 @@
 -- What a visit becomes as it enters a node.
 use Rattle.std.proofs.Common.{◌≡◌, ◌≢◌, inl, inr, ℕ, ◌+◌, ◌<◌, ◌≤◌, Bool, true, false, List, [], ◌∷◌, ◌++◌, length, refl, sym, ap, subst, ◌∙◌, arith}
-use Rattle.std.specs.Prelude.{None, Option, Some}
-use Rattle.std.proofs.lemmas.Bool.{cases_eq}
+use Rattle.std.specs.Prelude.{IfSome, None, Ok, OnErr, Option, Err, Result, Some, if◌then◌else◌, nat_lt}
+use Rattle.std.proofs.lemmas.Bool.{cases_eq, ltb-false, ltb-true}
 use Rattle.warm_stamps.specs.declared.PageId.{PageId}
 use Rattle.warm_history.specs.ReferenceSets.{ReferenceSet}
 use Rattle.warm_pool.specs.Unchanged.{KeepsBytes}
@@ -14,9 +14,9 @@ use Rattle.warm_shards.specs.declared.giving.Parts.{Parts}
 use Rattle.warm_shards.specs.declared.visit.Work.{Work}
 use Rattle.warm_shards.specs.declared.visit.Work.TheVariants.{Give, Raise, Read}
 use Rattle.warm_shards.specs.VisitParts.{IsFirstPart, IsPlace, IsReader, IsVisit, after_of, earlier, give_from, made_of, part_at, parts_count, raise_from, visit_of, work_from}
-use Rattle.warm_shards.specs.VisitReads.{HasRead, IsRead}
-use Rattle.warm_shards.specs.Visits.{After, Ask, Enters, Errand, HasEntered, Made, Said, Takes, VisitState, answered, at_shard, copying, ends, entries_for, entries_for_all, entries_left, entries_unless, gathered, given, giving, joined, keeps, next_shard, offering, onward, refused, sending, shard_next}
-use Rattle.warm_shards.proofs.VisitPlans.{give_end, give_here, give_skip, raise_end, raise_here}
+use Rattle.warm_shards.specs.VisitReads.{HasReadOne, IsReadMade}
+use Rattle.warm_shards.specs.Visits.{After, Ask, Enters, Errand, HasEntered, Made, Said, Takes, VisitState, answered, answers_of, at_shard, begun, copy_of, copying, ends, entries_for, entries_for_all, entries_left, entries_unless, gathered, given, giving, joined, keeps, next_shard, offer_in, offering, onward, raise_plan, refused, sending, shard_next}
+use Rattle.warm_shards.proofs.VisitPlans.{give_end, give_here, give_skip, raise_begun, raise_end, raise_here}
 
 -- ---- the next shard
 
@@ -95,7 +95,7 @@ shorter_stopped v e rest plan well =
 -- ---- entries
 
 -- what was read is no horizon
-read_keeps : (made : Made) (horizon : ℕ) → IsRead made → keeps made horizon ≡ made
+read_keeps : (made : Made) (horizon : ℕ) → IsReadMade made → keeps made horizon ≡ made
 read_keeps (gathered latest table) horizon read = refl
 read_keeps (answered messages) horizon read = refl
 read_keeps (joined h) horizon read = refl
@@ -119,14 +119,20 @@ pub enters_raised : (id count time rising shard horizon : ℕ) (work : Work) (ke
 enters_raised id count time rising shard horizon work kept stopped n m valid lt well goes bytes =
     let v = visit_of id count time rising shard work kept stopped in
     let later = raise_from count time (rising + 1) ++ work_from count work shard in
-    let plan : v.plan ≡ at_shard rising (giving (at_horizon time)) ∷ later = ap (λ es. es ++ work_from count work shard) (raise_here count time rising lt) in
-    ((at_shard rising (giving (at_horizon time)), given horizon, record {
-      ready = well;
-      rest = later;
-      next = plan;
-      says = ((goes.0, bytes), goes.1);
-      takes = ap (onward v later) (keeps_earlier id count shard work kept horizon valid.place);
-    }), shorter_by_one v (at_shard rising (giving (at_horizon time))) later stopped (after_of work) plan well well refl)
+    let plan : v.plan ≡ at_shard rising (giving (at_horizon time)) ∷ later = ap (λ es. es ++ work_from count work shard) (raise_here count time rising lt) in (
+      (
+        at_shard rising (giving (at_horizon time)),
+        given horizon,
+        record {
+          ready = well;
+          rest = later;
+          next = plan;
+          says = ((goes.0, bytes), goes.1);
+          takes = ap (onward v later) (keeps_earlier id count shard work kept horizon valid.place);
+        },
+      ),
+      shorter_by_one v (at_shard rising (giving (at_horizon time))) later stopped (after_of work) plan well well refl,
+    )
 
 -- the plan of a visit whose shards are all raised
 given_plan : (count time rising shard : ℕ) (parts : Parts) → count ≤ rising → shard < count
@@ -148,14 +154,20 @@ enters_refused id count time rising shard parts kept stopped n m valid over lt w
     let v = visit_of id count time rising shard (Give parts) kept stopped in
     let e = at_shard shard (giving (part_at parts shard)) in
     let later = give_from count (part_at parts) (shard + 1) in
-    let plan = given_plan count time rising shard parts over lt (valid.place.1 lt) in
-    ((e, refused, record {
-      ready = well;
-      rest = later;
-      next = plan;
-      says = (valid.place.1 lt, same);
-      takes = refl;
-    }), shorter_stopped v e later plan well)
+    let plan = given_plan count time rising shard parts over lt (valid.place.1 lt) in (
+      (
+        e,
+        refused,
+        record {
+          ready = well;
+          rest = later;
+          next = plan;
+          says = (valid.place.1 lt, same);
+          takes = refl;
+        },
+      ),
+      shorter_stopped v e later plan well,
+    )
 
 -- a node that takes its part in
 pub enters_given : (id count time rising shard first : ℕ) (parts : Parts) (kept : Option ℕ)
@@ -171,14 +183,20 @@ enters_given id count time rising shard first parts kept stopped n m valid over 
     let e = at_shard shard (giving (part_at parts shard)) in
     let later = give_from count (part_at parts) (shard + 1) in
     let plan = given_plan count time rising shard parts over lt (valid.place.1 lt) in
-    let rest : w.plan ≡ later = ap (λ es. es ++ give_from count (part_at parts) first) (raise_end count time rising over) ∙ sym (give_skip count (shard + 1) first parts valid.place.0 from) in
-    ((e, given m.history.horizon, record {
-      ready = well;
-      rest = later;
-      next = plan;
-      says = (is, refl);
-      takes = ap (λ (es : List Errand). let x : VisitState = record v { plan = es } in x) rest;
-    }), subst (λ (es : List Errand). entries_unless stopped es ends < entries_left v) (sym rest) (shorter_by_one v e later stopped ends plan well well refl))
+    let rest : w.plan ≡ later = ap (λ es. es ++ give_from count (part_at parts) first) (raise_end count time rising over) ∙ sym (give_skip count (shard + 1) first parts valid.place.0 from) in (
+      (
+        e,
+        given m.history.horizon,
+        record {
+          ready = well;
+          rest = later;
+          next = plan;
+          says = (is, refl);
+          takes = ap (λ (es : List Errand). let x : VisitState = record v { plan = es } in x) rest;
+        },
+      ),
+      subst (λ (es : List Errand). entries_unless stopped es ends < entries_left v) (sym rest) (shorter_by_one v e later stopped ends plan well well refl),
+    )
 
 -- ---- a visit that reads, once all shards are raised
 
@@ -199,7 +217,7 @@ read_is id count time rising shard reading kept stopped is over same =
 
 pub enters_read : (id count time rising shard : ℕ) (v w : VisitState) (kept : Option ℕ)
     (stopped : Bool) (n m : NodeState) → IsReader id count v → count ≤ rising → stopped ≡ false
-    → HasRead v n w m
+    → HasReadOne v n w m
     → let x = visit_of id count time rising shard (Read v) kept stopped in
     let y = visit_of id count time rising shard (Read w) kept stopped in
     HasEntered x n y m × (entries_left y < entries_left x)
@@ -225,3 +243,57 @@ refused_read id count time rising shard v w kept stopped n m is over well entere
     let some : 0 < entries_left v = shorter_stopped v entered.0 entered.2.rest entered.2.next entered.2.ready in
     subst (λ (x : VisitState). HasEntered x n (visit_of id count time rising shard (Read w) kept true) m × (0 < entries_left x)) (sym before)
     (subst (λ (y : VisitState). HasEntered v n y m) (sym after) entered, some)
+
+-- ---- what a visit says of itself
+
+-- the next shard that has a part
+pub part_next : (count shard : ℕ) (parts : Parts) → shard ≤ count
+    → (shard < count → (part_at parts shard).given ≢ [])
+    → (if nat_lt shard count then Some shard else None)
+    ≡ shard_next false (work_from count (Give parts) shard)
+part_next count shard parts within some = cases (nat_lt shard count) refl
+  where
+    cases : (b : Bool) → nat_lt shard count ≡ b
+        → (if b then Some shard else None) ≡ shard_next false (work_from count (Give parts) shard)
+    cases true is =
+        let lt : shard < count = ltb-true shard count is in
+        sym (next_part count shard parts lt (some lt))
+    cases false is = sym (no_part count shard parts (ltb-false shard count is))
+
+pub next_below : (count shard : ℕ) → IfSome (if nat_lt shard count then Some shard else None) (λ x. x < count)
+next_below count shard = cases (nat_lt shard count) refl
+  where
+    cases : (b : Bool) → nat_lt shard count ≡ b → IfSome (if b then Some shard else None) (λ x. x < count)
+    cases true is = ltb-true shard count is
+    cases false is = tt
+
+-- a visit that reads, and raises all shards first
+pub reads_begun : (id count time : ℕ) (plan : List Errand) (made : Made) (after : After)
+    → visit_of id count time 0 count (Read (begun id count plan made after)) None false
+    ≡ begun id count (raise_plan count time ++ plan) made after
+reads_begun id count time plan made after =
+    ap (λ es. begun id count (es ++ plan) made after) (raise_begun count time)
+
+-- one that raises none
+pub reads_only : (id count time : ℕ) (reading v : VisitState) → reading ≡ v → IsReader id count v
+    → visit_of id count time count count (Read reading) None false ≡ v
+reads_only id count time reading v is reader =
+    ap (λ (r : VisitState). visit_of id count time count count (Read r) None false) is
+    ∙ read_is id count time count count v None false reader (omega arith) (sym reader.going)
+
+pub reader_of : (id count : ℕ) (plan : List Errand) (made : Made) (after : After) → IsReadMade made
+    → IsReader id count (begun id count plan made after)
+reader_of id count plan made after read = record { id = refl; count = refl; going = refl; made = read }
+
+-- a visit that does not read has no answer, no offer and no copy
+pub gives_none : (id count shard : ℕ) (work : Work) (kept : Option ℕ)
+    → ((reading : VisitState) → work ≡ Read reading → ⊥)
+    → (answers_of (made_of work kept) (after_of work) ≡ []) × (offer_in id (made_of work kept) ≡ None)
+    × (copy_of (made_of work kept) ≡ None)
+gives_none id count shard Raise kept other = (refl, refl, refl)
+gives_none id count shard (Give parts) kept other = (refl, refl, refl)
+gives_none id count shard (Read reading) kept other = absurd (other reading refl)
+
+pub any_err : {A E P : Type 0} (result : Result A E) → P → OnErr result P
+any_err (Ok given) is = tt
+any_err (Err why) is = is

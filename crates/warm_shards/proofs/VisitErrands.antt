@@ -12,7 +12,7 @@ use Rattle.warm_peer.specs.Answers.{refs_in, requested_buckets}
 use Rattle.warm_shards.specs.Given.{at_horizon}
 use Rattle.warm_shards.specs.Shards.{IsShardCount, of_shard, shard_of}
 use Rattle.warm_shards.specs.VisitLaws.{AreOwnErrands, ErrandsAreOwn, IsOwnAsk}
-use Rattle.warm_shards.specs.Visits.{After, Ask, Compares, Errand, Made, Said, Takes, VisitState}
+use Rattle.warm_shards.specs.Visits.{After, Ask, ComparesOffers, Errand, Made, Said, Takes, VisitState}
 use Rattle.warm_shards.specs.Visits.{at_each, at_shard, compares, copied, copying}
 use Rattle.warm_shards.specs.Visits.{gathered, give_part, give_plan, given, giving, goes_on}
 use Rattle.warm_shards.specs.Visits.{offered, offering, part_errand, raise_and_give}
@@ -76,7 +76,7 @@ own_received id count (Digest sender horizon digests) valid =
 -- ---- one entry
 
 own_compared : (v w : VisitState) (rest : List Errand) (after : After) (made : Made)
-    → 0 < v.count → AreOwnErrands v.count v.plan → Compares rest after made v w
+    → 0 < v.count → AreOwnErrands v.count v.plan → ComparesOffers rest after made v w
     → AreOwnErrands w.count w.plan
 own_compared v w [] (compares digests) (gathered horizon table) some own is =
     subst (λ (x : VisitState). AreOwnErrands x.count x.plan) (sym is.3) (own_buckets v.count some (requested_buckets is.0))

@@ -17,7 +17,7 @@ use Rattle.warm_shards.specs.Given.{at_horizon}
 use Rattle.warm_shards.specs.Shards.{IsShardCount, of_first_shards, of_shard, shard_of}
 use Rattle.warm_shards.specs.VisitLaws.{EntersAny, GivesAll, WholeIsGiven, gave_all, gave_errand}
 use Rattle.warm_shards.specs.VisitParts.{give_from}
-use Rattle.warm_shards.specs.Visits.{After, Ask, Compares, Enters, Errand, Made, Said, Takes, VisitState, at_each, at_shard, compares, copied, copying, gathered, give_plan, given, giving, goes_on, offered, offering, raise_plan, receive_visit, refused, send_plan, sending, sent, shards_of}
+use Rattle.warm_shards.specs.Visits.{After, Ask, ComparesOffers, Enters, Errand, Made, Said, Takes, VisitState, at_each, at_shard, compares, copied, copying, gathered, give_plan, given, giving, goes_on, offered, offering, raise_plan, receive_visit, refused, send_plan, sending, sent, each_shard}
 use Rattle.warm_shards.proofs.AreShardsLemmas.{some_count}
 use Rattle.warm_shards.proofs.PartLemmas.{all_parts, next_part, no_part}
 use Rattle.warm_shards.proofs.VisitPlans.{give_end, give_here, give_past}
@@ -72,7 +72,7 @@ risen_plan (suc n) time some = risen_from time 0 n
 
 -- what an entry gave, and what the visit gives then, is what its plan gave
 compared_gives : (v w : VisitState) (rest : List Errand) (after : After) (made : Made)
-    → v.plan ≡ rest → Compares rest after made v w → plan_gives w.plan ≡ plan_gives rest
+    → v.plan ≡ rest → ComparesOffers rest after made v w → plan_gives w.plan ≡ plan_gives rest
 compared_gives v w [] (compares digests) (gathered horizon table) plan is =
     ap (λ (x : VisitState). plan_gives x.plan) is.3 ∙ sends_none v.count (requested_buckets is.0)
 compared_gives v w rest after made plan is =
@@ -212,4 +212,4 @@ whole_is_given = record {
     received id (Want sender horizon request) =
         gives_of _ (at_horizon horizon) (λ count some R. ap (λ T. history (R ∪ T)) (reads_give count horizon (send_plan count request) some (sends_none count (requested_buckets request))))
     received id (Digest sender horizon digests) =
-        gives_of _ (at_horizon horizon) (λ count some R. ap (λ T. history (R ∪ T)) (reads_give count horizon (at_each count offering) some (offers_none (shards_of count))))
+        gives_of _ (at_horizon horizon) (λ count some R. ap (λ T. history (R ∪ T)) (reads_give count horizon (at_each count offering) some (offers_none (each_shard count))))

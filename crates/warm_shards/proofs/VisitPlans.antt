@@ -15,19 +15,19 @@ use Rattle.warm_shards.specs.Shards.{of_shard}
 use Rattle.warm_shards.specs.declared.giving.Parts.{Parts}
 use Rattle.warm_shards.specs.declared.giving.Parts.TheVariants.{Batch, Entries}
 use Rattle.warm_shards.specs.declared.visit.Work.TheVariants.{Give}
-use Rattle.warm_shards.specs.VisitParts.{IsFirstPart, IsFirstSome, give_from, nth_list, part_at, parts_count, raise_from, shards_from, visit_of}
+use Rattle.warm_shards.specs.VisitParts.{IsFirstPart, IsFirstSome, give_from, nth_list, part_at, parts_count, raise_from, later_shards, visit_of}
 use Rattle.warm_shards.specs.Visits.{Errand, absorb_visit, at_shard, begun, ends, give_part, give_plan, give_visit, giving, nothing, part_errand, raise_plan}
 use Rattle.warm_shards.proofs.PartEntries.{batch_refs, held_none, held_some, part_refs}
 
 -- ---- from one shard on
 
 shards_more : (first count : ℕ) → first < count
-    → shards_from first count ≡ first ∷ shards_from (first + 1) count
+    → later_shards first count ≡ first ∷ later_shards (first + 1) count
 shards_more first count lt =
     let more : count - first ≡ suc (count - (first + 1)) = omega arith in
     ap (λ n. range_with_len first n) more
 
-shards_none : (first count : ℕ) → count ≤ first → shards_from first count ≡ []
+shards_none : (first count : ℕ) → count ≤ first → later_shards first count ≡ []
 shards_none first count le =
     let none : count - first ≡ 0 = omega arith in
     ap (λ n. range_with_len first n) none

@@ -11,7 +11,7 @@ use Rattle.warm_gossip.specs.State.{NodeState}
 use Rattle.warm_shards.specs.Clauses.{SameShards}
 use Rattle.warm_shards.specs.Shards.{AreShards, shard_at, whole}
 use Rattle.warm_shards.specs.VisitLaws.{Alone, EntersAlone}
-use Rattle.warm_shards.specs.Visits.{After, Compares, Errand, Said, VisitState, answered, answers_of, compares, ends, gathered, next_shard, offering, requests, send_plan}
+use Rattle.warm_shards.specs.Visits.{After, ComparesOffers, Errand, Said, VisitState, answered, answers_of, compares, ends, gathered, next_shard, offering, requests, send_plan}
 use Rattle.warm_shards.specs.VisitReads.{from_shard}
 use Rattle.warm_shards.proofs.VisitReads.{all_there, errand_here, errand_none, visit_at}
 use Rattle.warm_shards.proofs.VisitReadsOffers.{HasOffered, Offered, Offers, all_offered, goes_next, not_compared, offers_one}
@@ -47,7 +47,7 @@ last_offered mid digests k y are last have =
     let later = from_shard (k + 1) count offering in
     let made = gathered have.latest have.table in
     let all = all_offered mid have.latest have.table are (subst (λ n. Offered mid n have.latest have.table) last have.offered) in
-    let is : Compares [] (compares digests) made (visit_at id count later made (compares digests) false) y.visit = subst (λ es. Compares es (compares digests) made (visit_at id count later made (compares digests) false) y.visit) (errand_none (k + 1) count offering (omega (arith, last))) have.compared in
+    let is : ComparesOffers [] (compares digests) made (visit_at id count later made (compares digests) false) y.visit = subst (λ es. ComparesOffers es (compares digests) made (visit_at id count later made (compares digests) false) y.visit) (errand_none (k + 1) count offering (omega (arith, last))) have.compared in
     let request = is.0 in
     record {
       request = request;

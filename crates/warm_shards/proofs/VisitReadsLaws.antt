@@ -14,7 +14,7 @@ use Rattle.warm_shards.specs.Clauses.{SameShards, TakesInFirst, Together}
 use Rattle.warm_shards.specs.Given.{AreGiven, at_horizon}
 use Rattle.warm_shards.specs.Shards.{AreShards, held, shard_at, whole}
 use Rattle.warm_shards.specs.VisitLaws.{Alone, EndsAlone, EntersAlone, ReadingIsOneNode, ReceivesAlone, Whenever, alone}
-use Rattle.warm_shards.specs.Visits.{After, Errand, Made, Said, VisitState, answered, answers_of, at_each, compares, copy_of, copy_visit, copying, ends, gathered, joined, next_shard, no_offer, offer_of, offer_visit, offering, receive_visit, send_plan}
+use Rattle.warm_shards.specs.Visits.{After, Errand, Made, Said, VisitState, answered, answers_of, at_each, compares, copy_of, copy_visit, copying, ends, gathered, joined, next_shard, nothing_offered, offer_in, offer_visit, offering, receive_visit, send_plan}
 use Rattle.warm_shards.proofs.AnswerLemmas.{offered}
 use Rattle.warm_shards.proofs.AreShardsLemmas.{some_shards}
 use Rattle.warm_shards.proofs.Calls.{keep_then, same_ids, same_keeps, same_none, same_shards, same_whole}
@@ -71,7 +71,7 @@ Offering : List NodeState → Alone → Type 0
 Offering old s = (k : ℕ) × Offers old ends k s
 
 abbrev pub AnOffer : List NodeState → VisitState → List NodeState → Type 0
-AnOffer old w new = (offer : Message) × (offer_of w.id w.made ≡ Some offer)
+AnOffer old w new = (offer : Message) × (offer_in w.id w.made ≡ Some offer)
     × Together old Offer (Sent offer) new
 
 offers_on : (old : List NodeState) → AreShards old → (s y : Alone) (e : Errand) (said : Said)
@@ -99,7 +99,7 @@ offers old new w are (entries, runs) over =
     let id = (shard_at old 0).id in
     let count = length old in
     let s = alone (offer_visit id count) old in
-    let first = offers_first old ends s (same_none old) (λ i. visit_at id count (from_first count offering i) no_offer ends false) in
+    let first = offers_first old ends s (same_none old) (λ i. visit_at id count (from_first count offering i) nothing_offered ends false) in
     let last = all_keep EntersAlone (Offering old) (λ x y e said. offers_on old are x y e said) s (alone w new) entries (0, first) runs in
     ends_same (AnOffer old) old new w are last.1.same (λ going. offer_made old (alone w new) last.0 are last.1 over going)
 
@@ -145,10 +145,10 @@ digests_answered sender horizon digests old new w are (entries, runs) over =
     let message = Digest sender horizon digests in
     let s = alone (receive_visit (shard_at old 0).id (length old) message) old in
     let after = compares digests in
-    let risen = raised_first old horizon (at_each (length old) offering) no_offer after are (λ h. refl) s (alone w new) entries refl refl runs over in
+    let risen = raised_first old horizon (at_each (length old) offering) nothing_offered after are (λ h. refl) s (alone w new) entries refl refl runs over in
     let mid = risen.mid.shards in
     let are_mid = risen.raised.shards in
-    let begins = risen.visit ∙ after_raise old mid horizon no_offer after (λ count. at_each count offering) risen.raised ∙ ap (λ xs. visit_at (shard_at mid 0).id (length mid) xs no_offer after false) (from_first (length mid) offering) in
+    let begins = risen.visit ∙ after_raise old mid horizon nothing_offered after (λ count. at_each count offering) risen.raised ∙ ap (λ xs. visit_at (shard_at mid 0).id (length mid) xs nothing_offered after false) (from_first (length mid) offering) in
     let first : Comparing mid digests risen.mid = inl (record { k = 0; there = some_shards mid are_mid; offers = offers_first mid after risen.mid (same_none mid) begins }) in
     let last : Comparing mid digests (alone w new) = all_keep EntersAlone (Comparing mid digests) (compares_on mid digests are_mid) risen.mid (alone w new) risen.more first risen.runs in
     let same = same_compared mid digests (alone w new) last in

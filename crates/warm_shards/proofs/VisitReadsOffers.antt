@@ -11,8 +11,8 @@ use Rattle.warm_shards.specs.Clauses.{SameShards}
 use Rattle.warm_shards.specs.Digests.{FillsShard}
 use Rattle.warm_shards.specs.Shards.{AreShards, no_shard, shard_at, whole}
 use Rattle.warm_shards.specs.VisitLaws.{Alone, EntersAlone}
-use Rattle.warm_shards.specs.Visits.{After, Compares, Errand, Gathers, Made, Said, Takes, VisitState}
-use Rattle.warm_shards.specs.Visits.{ends, gathered, no_offer, offered}
+use Rattle.warm_shards.specs.Visits.{After, ComparesOffers, Errand, GathersOffer, Made, Said, Takes, VisitState}
+use Rattle.warm_shards.specs.Visits.{ends, gathered, nothing_offered, offered}
 use Rattle.warm_shards.specs.Visits.{offering}
 use Rattle.warm_shards.proofs.AnswerLemmas.{digests_next}
 use Rattle.warm_shards.proofs.AreShardsLemmas.{some_shards}
@@ -40,7 +40,7 @@ pub record Offers (old : List NodeState) (after : After) (k : ℕ) (s : Alone) :
   pub offered : Offered old k latest table
 
 pub offers_first : (old : List NodeState) (after : After) (s : Alone) → SameShards old s.shards
-    → s.visit ≡ visit_at (shard_at old 0).id (length old) (from_shard 0 (length old) offering) no_offer after false
+    → s.visit ≡ visit_at (shard_at old 0).id (length old) (from_shard 0 (length old) offering) nothing_offered after false
     → Offers old after 0 s
 offers_first old after s same visit = record {
   within = omega arith;
@@ -93,7 +93,7 @@ gathers_more : (old ns : List NodeState) (k latest horizon : ℕ) (table own : L
     (made : Made) → AreShards old → k < length old → SameShards old ns
     → horizon ≡ (shard_at ns k).history.horizon
     → own ≡ digests_of (entries_of (shard_at ns k).history)
-    → Gathers (length old) k horizon own (gathered latest table) made → Offered old k latest table
+    → GathersOffer (length old) k horizon own (gathered latest table) made → Offered old k latest table
     → (later : ℕ) × (filled : List (List ℕ)) × (made ≡ gathered later filled)
     × Offered old (k + 1) later filled
 gathers_more old ns k latest horizon table own (gathered later filled) are lt same at is gathers have =
@@ -106,7 +106,7 @@ pub record HasOffered (old : List NodeState) (after : After) (k : ℕ) (y : Alon
   pub latest : ℕ
   pub table : List (List ℕ)
   pub offered : Offered old (k + 1) latest table
-  pub compared : Compares (from_shard (k + 1) (length old) offering) after (gathered latest table)
+  pub compared : ComparesOffers (from_shard (k + 1) (length old) offering) after (gathered latest table)
       (visit_at (shard_at old 0).id (length old) (from_shard (k + 1) (length old) offering) (gathered latest table) after false) y.visit
 
 offers_at : (old : List NodeState) (after : After) (k : ℕ) → AreShards old → k < length old
@@ -124,7 +124,7 @@ offers_at old after k are lt s y said have here =
           let takes : Takes v k offering later (offered horizon own) y.visit = subst (λ x. Takes v k offering later x y.visit) is here.takes in
           let more = gathers_more old s.shards k have.latest horizon have.table own takes.0 are lt have.same at digests takes.1 have.offered in
           let u : Bool → Made → VisitState = λ stopped made. visit_at id count later made after stopped in
-          let compared : Compares later after (gathered more.0 more.1) (u false (gathered more.0 more.1)) y.visit = subst (λ m. Compares later after m (u false m) y.visit) more.2 (subst (λ b. Compares later after takes.0 (u b takes.0) y.visit) here.ready takes.2) in
+          let compared : ComparesOffers later after (gathered more.0 more.1) (u false (gathered more.0 more.1)) y.visit = subst (λ m. ComparesOffers later after m (u false m) y.visit) more.2 (subst (λ b. ComparesOffers later after takes.0 (u b takes.0) y.visit) here.ready takes.2) in
           inr (record {
             same = same_read old s.shards y.shards k there have.same here.changed same;
             latest = more.0;
@@ -171,12 +171,12 @@ goes_next old after k y lt have visit = record {
 
 -- where nothing is compared
 pub nothing_compared : (rest : List Errand) (made : Made) (v w : VisitState)
-    → Compares rest ends made v w → w ≡ v
+    → ComparesOffers rest ends made v w → w ≡ v
 nothing_compared [] made v w is = is
 nothing_compared (e ∷ rest) made v w is = is
 
 -- where a shard has not offered yet
 pub not_compared : (e : Errand) (es rest : List Errand) (after : After) (made : Made)
-    (v w : VisitState) → rest ≡ e ∷ es → Compares rest after made v w → w ≡ v
+    (v w : VisitState) → rest ≡ e ∷ es → ComparesOffers rest after made v w → w ≡ v
 not_compared e es rest after made v w more is =
-    subst (λ (xs : List Errand). Compares xs after made v w) more is
+    subst (λ (xs : List Errand). ComparesOffers xs after made v w) more is

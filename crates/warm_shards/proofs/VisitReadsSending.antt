@@ -25,8 +25,8 @@ use Rattle.warm_peer.specs.Chunks.{last_page}
 use Rattle.warm_peer.specs.Since.{HasMoreSince, sent_since}
 use Rattle.warm_gossip.specs.State.{NodeState}
 use Rattle.warm_shards.specs.declared.sending.Sending.{Sending}
-use Rattle.warm_shards.specs.VisitReads.{HasRead, IsPage, asks_for, send_from, sending_visit}
-use Rattle.warm_shards.specs.Visits.{After, Errand, HasEntered, answered, at_shard, begun, entries_after, entries_for, entries_for_all, goes_on, pages_after, refused, send_plan, sending, sent, with_message}
+use Rattle.warm_shards.specs.VisitReads.{HasReadOne, IsPageOrNone, asks_for, send_from, sending_visit}
+use Rattle.warm_shards.specs.Visits.{After, Errand, HasEntered, answered, at_shard, begun, entries_after, entries_for, entries_for_all, goes_on, pages_after, send_plan, sending, sent, with_message}
 use Rattle.warm_shards.proofs.Calls.{bytes_same}
 use Rattle.warm_shards.proofs.VisitReadsPortions.{last_of_first, left_of_bucket, portion_is}
 
@@ -69,7 +69,7 @@ pages_rise p q fits less = cases (nat_cmp p.dev q.dev) refl less
     cases Greater is lt = let never : false ≡ true = lt in absurd (cc)
 
 -- fewer pages are after a later one
-fewer_pages : (after : Option PageId) (q : PageId) → IsPage after → comes_after after q ≡ true
+fewer_pages : (after : Option PageId) (q : PageId) → IsPageOrNone after → comes_after after q ≡ true
     → pages_after (Some q) < pages_after after
 fewer_pages None q page later = omega arith
 fewer_pages (Some p) q page later =
@@ -94,14 +94,17 @@ has_sent : (id count bucket : ℕ) (s t : Sending) (n : NodeState) (message : Me
     → HasEntered (sending_visit id count s) n (sending_visit id count t) n
 has_sent id count bucket s t n message more at want is follow made plan =
     let i = bucket % count in
-    let rest = later_errands count s.later in
-    (at_shard i (sending bucket s.after), sent message more, record {
-      ready = refl;
-      rest = rest;
-      next = ap (λ b. send_from count b s.later s.after) at;
-      says = (is, follow, (refl, bytes_same n.pool));
-      takes = λ j. begun id count (plan j) (made j) (asks_for id (want j));
-    })
+    let rest = later_errands count s.later in (
+      at_shard i (sending bucket s.after),
+      sent message more,
+      record {
+        ready = refl;
+        rest = rest;
+        next = ap (λ b. send_from count b s.later s.after) at;
+        says = (is, follow, (refl, bytes_same n.pool));
+        takes = λ j. begun id count (plan j) (made j) (asks_for id (want j));
+      },
+    )
 
 shorter_plan : (a b : ℕ) (es fs rest : List Errand) (e : Errand) (x : ℕ) → es ≡ e ∷ rest
     → entries_for_all fs ≡ x + entries_for_all rest → x < entries_for e.ask → b ≡ a
@@ -116,8 +119,8 @@ pub sends_more : (id count bucket : ℕ) (s t : Sending) (n : NodeState) (messag
     → message ≡ sent_since n.id n.history bucket 0 s.after
     → (IsTrue true ↔ HasMoreSince n.history bucket 0 s.after)
     → answered t.messages.items ≡ with_message (answered s.messages.items) message
-    → t.after ≡ last_page (entries_in message) → IsHistory n.history → IsPage s.after
-    → HasRead (sending_visit id count s) n (sending_visit id count t) n
+    → t.after ≡ last_page (entries_in message) → IsHistory n.history → IsPageOrNone s.after
+    → HasReadOne (sending_visit id count s) n (sending_visit id count t) n
 sends_more id count bucket s t n message at bucket_is later want is follow made last valid page =
     let i = bucket % count in
     let es = left_of_bucket n.history bucket s.after in
@@ -151,7 +154,7 @@ pub sends_last : (id count bucket : ℕ) (s t : Sending) (n : NodeState) (messag
     → t.after ≡ None → message ≡ sent_since n.id n.history bucket 0 s.after
     → (IsTrue false ↔ HasMoreSince n.history bucket 0 s.after)
     → answered t.messages.items ≡ with_message (answered s.messages.items) message
-    → HasRead (sending_visit id count s) n (sending_visit id count t) n
+    → HasReadOne (sending_visit id count s) n (sending_visit id count t) n
 sends_last id count bucket s t n message at want steps none is follow made =
     let i = bucket % count in
     let rest = later_errands count s.later in
@@ -165,18 +168,6 @@ sends_last id count bucket s t n message at want steps none is follow made =
           (ap (λ b. send_from count b s.later s.after) at) (omega (arith, ap entries_for_all plan)) (omega arith) (ap (λ x. entries_after (asks_for id x)) want);
       count = refl;
     }
-
--- the node had no memory for it
-pub sends_refused : (id count bucket : ℕ) (s : Sending) (n : NodeState) → s.bucket ≡ Some bucket
-    → HasEntered (sending_visit id count s) n (record (sending_visit id count s) { stopped = true }) n
-sends_refused id count bucket s n at =
-    (at_shard (bucket % count) (sending bucket s.after), refused, record {
-      ready = refl;
-      rest = later_errands count s.later;
-      next = ap (λ b. send_from count b s.later s.after) at;
-      says = (refl, bytes_same n.pool);
-      takes = refl;
-    })
 
 -- ---- a request
 

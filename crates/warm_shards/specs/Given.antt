@@ -57,7 +57,7 @@ pub record Gives (S : ReferenceSet) (old : List NodeState) (result : Result Unit
 -- What a call leaves by which shards receive a message. They have received it as one node does, or,
 -- if memory was refused, have its horizon and what it has for the first shards. They are still the
 -- shards of the replica, and their pools are as they were.
-pub record Receives (message : Message) (old : List NodeState) (result : Result (List Message) NodeFault)
+pub record ReceivesAll (message : Message) (old : List NodeState) (result : Result (List Message) NodeFault)
     (new : List NodeState) : Type 0 where
   pub shards : AreShards new
   pub id : (shard_at new 0).id ≡ (shard_at old 0).id

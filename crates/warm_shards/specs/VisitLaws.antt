@@ -20,7 +20,7 @@ use Rattle.warm_shards.specs.Given.{at_horizon}
 use Rattle.warm_shards.specs.Shards.{AreShards, IsShardCount, shard_at, shard_of, whole}
 use Rattle.warm_shards.specs.Visits.{Ask, Enters, Errand, Said, VisitState, absorb_visit}
 use Rattle.warm_shards.specs.Visits.{answers_of, copy_of, copy_visit, given, giving, join_visit}
-use Rattle.warm_shards.specs.Visits.{kept_of, next_shard, offer_of, offer_visit, raise_visit}
+use Rattle.warm_shards.specs.Visits.{kept_of, next_shard, offer_in, offer_visit, raise_visit}
 use Rattle.warm_shards.specs.Visits.{receive_visit, sending}
 
 -- Nobody interrupts
@@ -30,9 +30,11 @@ pub record Alone : Type 0 where
   pub visit : VisitState
   pub shards : List NodeState
 
+-- this visit, and these shards
 abbrev pub alone : VisitState → List NodeState → Alone
 alone v shards = record { visit = v; shards = shards }
 
+-- the visit enters one of them, and the others stay as they are
 abbrev pub EntersAlone : Alone → Errand → Said → Alone → Type 0
 EntersAlone s e said t =
     Enters s.visit (shard_at s.shards e.shard) e said t.visit (shard_at t.shards e.shard)
@@ -82,7 +84,7 @@ pub record GivingIsOneNode : Type 0 where
 -- And so is one that reads.
 pub record ReadingIsOneNode : Type 0 where
   pub offers : Whenever offer_visit (λ old. EndsAlone (λ w new. (offer : Message)
-      × (offer_of w.id w.made ≡ Some offer) × Together old Offer (Sent offer) new) (set_of_list [])
+      × (offer_in w.id w.made ≡ Some offer) × Together old Offer (Sent offer) new) (set_of_list [])
       old)
   pub requests : (sender horizon request : ℕ) → ReceivesAlone (Want sender horizon request)
   pub digests : (sender horizon : ℕ) (digests : List (List ℕ))
@@ -96,11 +98,12 @@ pub record ReadingIsOneNode : Type 0 where
 abbrev pub EntersAny : VisitState → Errand → Said → VisitState → Type 0
 EntersAny v e said w = (old new : NodeState) × Enters v old e said w new
 
--- what an errand gave its shard, and those of a visit all shards together
+-- what an errand gave its shard
 abbrev pub gave_errand : Ask → Said → ReferenceSet
 gave_errand (giving S) (given horizon) = S
 gave_errand ask said = set_of_list []
 
+-- what the errands of a visit gave all shards together
 abbrev pub gave_all : List (Operation Errand Said) → ReferenceSet
 gave_all [] = set_of_list []
 gave_all (e ∷ es) = gave_errand e.call.ask e.reply ∪ gave_all es
@@ -129,6 +132,7 @@ IsOwnAsk count i (giving S) = AllByRecursion (λ r. shard_of count r.page ≡ i)
 IsOwnAsk count i (sending bucket after) = bucket % count ≡ i
 IsOwnAsk count i ask = Unit {0}
 
+-- each errand is at a shard, and of its pages and buckets alone
 abbrev pub AreOwnErrands : ℕ → List Errand → Type 0
 AreOwnErrands count plan =
     AllByRecursion (λ e. (e.shard < count) × IsOwnAsk count e.shard e.ask) plan

@@ -11,7 +11,7 @@ use Rattle.warm_shards.specs.declared.visit.Work.{Work}
 use Rattle.warm_shards.specs.declared.visit.Work.TheVariants.{Give, Raise, Read}
 use Rattle.warm_shards.specs.Given.{at_horizon}
 use Rattle.warm_shards.specs.Shards.{IsShardCount}
-use Rattle.warm_shards.specs.VisitReads.{IsRead}
+use Rattle.warm_shards.specs.VisitReads.{IsReadMade}
 use Rattle.warm_shards.specs.Visits.{After, Errand, Made, VisitState, at_shard, ends, give_part, giving}
 use Rattle.warm_shards.specs.Visits.{nothing, raised}
 
@@ -51,17 +51,17 @@ pub record IsFirstPart (parts : Parts) (start first : ℕ) : Type 0 where
 -- The plan
 
 -- the numbers of the shards from this one on
-abbrev pub shards_from : ℕ → ℕ → List ℕ
-shards_from first count = range_with_len first (count - first)
+abbrev pub later_shards : ℕ → ℕ → List ℕ
+later_shards first count = range_with_len first (count - first)
 
 -- the shards from this one on are raised
 abbrev pub raise_from : ℕ → ℕ → ℕ → List Errand
 raise_from count time first =
-    map (λ i. at_shard i (giving (at_horizon time))) (shards_from first count)
+    map (λ i. at_shard i (giving (at_horizon time))) (later_shards first count)
 
 -- the shards from this one on are given their parts
 abbrev pub give_from : ℕ → (ℕ → ReferenceSet) → ℕ → List Errand
-give_from count part first = flat_map (λ i. give_part i (part i)) (shards_from first count)
+give_from count part first = flat_map (λ i. give_part i (part i)) (later_shards first count)
 
 -- the errands from this shard on, once all are raised
 abbrev pub work_from : ℕ → Work → ℕ → List Errand
@@ -74,15 +74,18 @@ abbrev pub earlier : Option ℕ → ℕ → ℕ
 earlier None horizon = horizon
 earlier (Some earliest) horizon = min earliest horizon
 
+-- what a visit has made
 abbrev pub made_of : Work → Option ℕ → Made
 made_of Raise kept = raised kept
 made_of (Give parts) kept = nothing
 made_of (Read reading) kept = reading.made
 
+-- what follows its last errand
 abbrev pub after_of : Work → After
 after_of (Read reading) = reading.after
 after_of work = ends
 
+-- the visit that is held so
 abbrev pub visit_of : ℕ → ℕ → ℕ → ℕ → ℕ → Work → Option ℕ → Bool → VisitState
 visit_of id count time rising shard work kept stopped = record {
   id = id;
@@ -98,7 +101,7 @@ pub record IsReader (number shards : ℕ) (reading : VisitState) : Type 0 where
   pub id : reading.id ≡ number
   pub count : reading.count ≡ shards
   pub going : reading.stopped ≡ false
-  pub made : IsRead reading.made
+  pub made : IsReadMade reading.made
 
 -- the shard is one that has an errand, or the count
 abbrev pub IsPlace : ℕ → ℕ → ℕ → Work → Type 0
@@ -107,6 +110,7 @@ IsPlace id count shard (Give parts) = (parts_count parts ≡ count)
     × (shard < count → (part_at parts shard).given ≢ [])
 IsPlace id count shard (Read reading) = IsReader id count reading
 
+-- how a visit is held: no shard is passed over that has an errand
 pub record IsVisit (id count rising shard : ℕ) (work : Work) : Type 0 where
   pub valid : IsShardCount count
   pub begins : rising ≤ count

@@ -14,32 +14,32 @@ use Rattle.warm_shards.specs.declared.reading.Task.{Task}
 use Rattle.warm_shards.specs.declared.reading.Task.TheVariants.{Copy, Gather, Send}
 use Rattle.warm_shards.specs.declared.sending.Sending.{Sending}
 use Rattle.warm_shards.specs.declared.sending.Wanted.{Wanted}
-use Rattle.warm_shards.specs.Visits.{After, Ask, Errand, Gathers, HasEntered, Made, NodeSays}
+use Rattle.warm_shards.specs.Visits.{After, Ask, Errand, GathersOffer, HasEntered, Made, NodeSays}
 use Rattle.warm_shards.specs.Visits.{VisitState, answered, at_shard, begun, compares, copying, ends}
 use Rattle.warm_shards.specs.Visits.{entries_left, gathered, joined, nothing, offered, offering}
 use Rattle.warm_shards.specs.Visits.{raised, refused, requests, sending}
 
 -- what was made is read, and no horizon that a shard kept
-abbrev pub IsRead : Made → Type 0
-IsRead nothing = ⊥
-IsRead (raised horizon) = ⊥
-IsRead made = Unit {0}
+abbrev pub IsReadMade : Made → Type 0
+IsReadMade nothing = ⊥
+IsReadMade (raised horizon) = ⊥
+IsReadMade made = Unit {0}
 
 -- the visit has run its next errand at the node, which did not refuse it
-pub record HasRead (v : VisitState) (old : NodeState) (w : VisitState) (new : NodeState)
+pub record HasReadOne (v : VisitState) (old : NodeState) (w : VisitState) (new : NodeState)
     : Type 0 where
   pub entered : HasEntered v old w new
   pub shorter : entries_left w < entries_left v
   pub id : w.id ≡ v.id
   pub count : w.count ≡ v.count
   pub going : w.stopped ≡ false
-  pub made : IsRead w.made
+  pub made : IsReadMade w.made
 
 -- One entry of a visit that reads: the node says something, and the visit takes it; or it is
 -- refused, and the visit is as it was.
 abbrev pub ReadsOne : VisitState → NodeState → Result Unit NodeFault → VisitState → NodeState
     → Type 0
-ReadsOne v old (Ok done) w new = HasRead v old w new
+ReadsOne v old (Ok done) w new = HasReadOne v old w new
 ReadsOne v old (Err why) w new = HasEntered v old (record v { stopped = true }) new × (w ≡ v)
     × (why ≡ Memory)
 
@@ -58,16 +58,16 @@ abbrev pub AddsOffer : ℕ → NodeState → Gathering → Result Unit NodeFault
     → Type 0
 AddsOffer count old g (Ok done) new h = (horizon : ℕ) × (table : List (List ℕ))
     × NodeSays old offering (offered horizon table) new
-    × Gathers count g.shard horizon table (gathered_in g) (gathered_in h)
+    × GathersOffer count g.shard horizon table (gathered_in g) (gathered_in h)
     × (h.shard ≡ g.shard + 1) × (h.waiting ≡ g.waiting)
 AddsOffer count old g (Err why) new h = NodeSays old offering refused new × (h ≡ g) × (why ≡ Memory)
 
 -- Sending
 
 -- a page number and a device's number have 64 and 16 bits
-abbrev pub IsPage : Option PageId → Type 0
-IsPage None = Unit {0}
-IsPage (Some p) = (p.dev < 2 ^ 16) × (p.no < 2 ^ 64)
+abbrev pub IsPageOrNone : Option PageId → Type 0
+IsPageOrNone None = Unit {0}
+IsPageOrNone (Some p) = (p.dev < 2 ^ 16) × (p.no < 2 ^ 64)
 
 -- a message of entries that has none
 abbrev pub HasNoEntries : Message → Type 0
@@ -85,6 +85,7 @@ abbrev pub asks_for : ℕ → Option Wanted → After
 asks_for id None = ends
 asks_for id (Some want) = requests (Want id want.horizon want.request)
 
+-- a visit that sends
 abbrev pub sending_visit : ℕ → ℕ → Sending → VisitState
 sending_visit id count s = begun id count (send_from count s.bucket s.later s.after)
     (answered s.messages.items) (asks_for id s.want)
@@ -96,30 +97,34 @@ abbrev pub waits_for : Option (List (List ℕ)) → After
 waits_for None = ends
 waits_for (Some digests) = compares digests
 
+-- a visit that gathers digests
 abbrev pub gathering_visit : ℕ → ℕ → Gathering → VisitState
 gathering_visit id count g = begun id count (from_shard g.shard count offering) (gathered_in g)
     (waits_for g.waiting)
 
+-- a visit that copies
 abbrev pub copying_visit : ℕ → ℕ → Copying → VisitState
 copying_visit id count c =
     begun id count (from_shard c.shard count copying) (joined c.history) ends
 
+-- a visit that reads
 abbrev pub reading_of : ℕ → ℕ → Task → VisitState
 reading_of id count (Gather g) = gathering_visit id count g
 reading_of id count (Send s) = sending_visit id count s
 reading_of id count (Copy c) = copying_visit id count c
 
 -- where digests wait, some shard has not offered yet
-abbrev pub IsBefore : ℕ → ℕ → Option (List (List ℕ)) → Type 0
-IsBefore shard count None = shard ≤ count
-IsBefore shard count (Some digests) = shard < count
+abbrev pub IsBeforeLast : ℕ → ℕ → Option (List (List ℕ)) → Type 0
+IsBeforeLast shard count None = shard ≤ count
+IsBeforeLast shard count (Some digests) = shard < count
 
+-- no shard is passed over, and the page after which a portion begins is one
 abbrev pub IsTask : ℕ → Task → Type 0
-IsTask count (Gather g) = IsBefore g.shard count g.waiting
-IsTask count (Send s) = IsPage s.after
+IsTask count (Gather g) = IsBeforeLast g.shard count g.waiting
+IsTask count (Send s) = IsPageOrNone s.after
 IsTask count (Copy c) = c.shard ≤ count
 
-pub record IsReading (count : ℕ) (task : Task) : Type 0 where
+pub record IsReadingVisit (count : ℕ) (task : Task) : Type 0 where
   pub some : 0 < count
   pub place : IsTask count task
 
@@ -128,9 +133,9 @@ pub record IsReading (count : ℕ) (task : Task) : Type 0 where
 abbrev pub GathersOne : ℕ → ℕ → Gathering → NodeState → Result (Option Sending) NodeFault → Gathering
     → NodeState → Type 0
 GathersOne id count g old (Ok None) h new =
-    HasRead (gathering_visit id count g) old (gathering_visit id count h) new
-    × IsBefore h.shard count h.waiting
+    HasReadOne (gathering_visit id count g) old (gathering_visit id count h) new
+    × IsBeforeLast h.shard count h.waiting
 GathersOne id count g old (Ok (Some s)) h new =
-    HasRead (gathering_visit id count g) old (sending_visit id count s) new × IsPage s.after
+    HasReadOne (gathering_visit id count g) old (sending_visit id count s) new × IsPageOrNone s.after
 GathersOne id count g old (Err why) h new = (h ≡ g) × (why ≡ Memory)
     × HasEntered (gathering_visit id count g) old (record (gathering_visit id count g) { stopped = true }) new

@@ -49,6 +49,7 @@ pub record Errand : Type 0 where
   pub shard : ℕ
   pub ask : Ask
 
+-- the errand of the shard of this number
 abbrev pub at_shard : ℕ → Ask → Errand
 at_shard i ask = record { shard = i; ask = ask }
 
@@ -79,6 +80,7 @@ pub record VisitState : Type 0 where
   pub after : After
   pub stopped : Bool
 
+-- a visit with these errands, which no shard has refused
 abbrev pub begun : ℕ → ℕ → List Errand → Made → After → VisitState
 begun id count plan made after = record {
   id = id;
@@ -116,10 +118,10 @@ keeps (raised (Some earliest)) horizon = raised (Some (min earliest horizon))
 keeps made horizon = made
 
 -- the offer of one more shard
-abbrev pub Gathers : ℕ → ℕ → ℕ → List (List ℕ) → Made → Made → Type 0
-Gathers count i horizon table (gathered latest digests) (gathered later filled) =
+abbrev pub GathersOffer : ℕ → ℕ → ℕ → List (List ℕ) → Made → Made → Type 0
+GathersOffer count i horizon table (gathered latest digests) (gathered later filled) =
     (later ≡ max latest horizon) × FillsShard count i digests table filled
-Gathers count i horizon table before after = ⊥
+GathersOffer count i horizon table before after = ⊥
 
 -- one more message; one without entries is none
 abbrev pub with_message : Made → Message → Made
@@ -144,12 +146,12 @@ send_plan count request =
 
 -- If all have offered that are to be compared: the entries of the buckets that differ, and then a
 -- request for these; nothing if none differs.
-abbrev pub Compares : List Errand → After → Made → VisitState → VisitState → Type 0
-Compares [] (compares digests) (gathered horizon table) v w = (request : ℕ) × (request < 2 ^ 64)
+abbrev pub ComparesOffers : List Errand → After → Made → VisitState → VisitState → Type 0
+ComparesOffers [] (compares digests) (gathered horizon table) v w = (request : ℕ) × (request < 2 ^ 64)
     × MarksDiffering request digests table
     × (w ≡ begun v.id v.count (send_plan v.count request) (answered [])
     (if request == 0 then ends else requests (Want v.id horizon request)))
-Compares rest after made v w = w ≡ v
+ComparesOffers rest after made v w = w ≡ v
 
 -- the visit with these errands left, and this made
 abbrev pub onward : VisitState → List Errand → Made → VisitState
@@ -161,8 +163,8 @@ Takes v i (giving S) rest (given horizon) w = w ≡ onward v rest (keeps v.made 
 Takes v i (giving S) rest refused w = w ≡ record v { stopped = true }
 Takes v i (giving S) rest said w = ⊥
 Takes v i offering rest (offered horizon table) w = (made : Made)
-    × Gathers v.count i horizon table v.made made
-    × Compares rest v.after made (onward v rest made) w
+    × GathersOffer v.count i horizon table v.made made
+    × ComparesOffers rest v.after made (onward v rest made) w
 Takes v i offering rest refused w = w ≡ record v { stopped = true }
 Takes v i offering rest said w = ⊥
 Takes v i (sending bucket after) rest (sent message more) w =
@@ -192,6 +194,7 @@ shard_next true plan = None
 shard_next false [] = None
 shard_next false (e ∷ rest) = Some e.shard
 
+-- the shard that the visit enters next
 abbrev pub next_shard : VisitState → Option ℕ
 next_shard v = shard_next v.stopped v.plan
 
@@ -212,6 +215,7 @@ abbrev pub entries_for : Ask → ℕ
 entries_for (sending bucket after) = pages_after after + 1
 entries_for ask = 1
 
+-- how many entries these errands take at most
 abbrev pub entries_for_all : List Errand → ℕ
 entries_for_all [] = 0
 entries_for_all (e ∷ es) = entries_for e.ask + entries_for_all es
@@ -221,6 +225,7 @@ abbrev pub entries_after : After → ℕ
 entries_after (compares digests) = BUCKETS * entries_for (sending 0 None)
 entries_after after = 0
 
+-- how many are left; none if an errand was refused
 abbrev pub entries_unless : Bool → List Errand → After → ℕ
 entries_unless true plan after = 0
 entries_unless false plan after = entries_for_all plan + entries_after after
@@ -231,50 +236,58 @@ entries_left v = entries_unless v.stopped v.plan v.after
 
 -- The calls of the whole
 
--- the shards, in their order; and the same errand at each
-abbrev pub shards_of : ℕ → List ℕ
-shards_of count = range_with_len 0 count
+-- the shards, in their order
+abbrev pub each_shard : ℕ → List ℕ
+each_shard count = range_with_len 0 count
 
+-- the same errand at each shard
 abbrev pub at_each : ℕ → Ask → List Errand
-at_each count ask = map (λ i. at_shard i ask) (shards_of count)
+at_each count ask = map (λ i. at_shard i ask) (each_shard count)
 
 -- an errand at a shard to which references are given, if there are any
 abbrev pub part_errand : ℕ → ReferenceSet → List Reference → List Errand
 part_errand i S [] = []
 part_errand i S (r ∷ rs) = at_shard i (giving S) ∷ []
 
+-- the errand that gives a shard its part, if it has one
 abbrev pub give_part : ℕ → ReferenceSet → List Errand
 give_part i S = part_errand i S S.given
 
 -- those are given references that have pages of them
 abbrev pub give_plan : ℕ → ReferenceSet → List Errand
-give_plan count S = flat_map (λ i. give_part i (of_shard count i S)) (shards_of count)
+give_plan count S = flat_map (λ i. give_part i (of_shard count i S)) (each_shard count)
 
 -- each shard is raised, and then those are given references that have pages of them
 abbrev pub raise_plan : ℕ → ℕ → List Errand
 raise_plan count time = at_each count (giving (at_horizon time))
 
+-- each shard is raised, and then those are given references that have pages of them
 abbrev pub raise_and_give : ℕ → ReferenceSet → List Errand
 raise_and_give count S = raise_plan count S.horizon ++ give_plan count S
 
+-- a batch: each shard is given the references to its pages
 abbrev pub absorb_visit : ℕ → ℕ → List Reference → VisitState
 absorb_visit id count batch = begun id count (give_plan count (set_of_list batch)) nothing ends
 
+-- a horizon
 abbrev pub raise_visit : ℕ → ℕ → ℕ → VisitState
 raise_visit id count time = begun id count (raise_plan count time) (raised None) ends
 
+-- references at their horizon
 abbrev pub give_visit : ℕ → ℕ → ReferenceSet → VisitState
 give_visit id count S = begun id count (raise_and_give count S) nothing ends
 
+-- all that another history stands for
 abbrev pub join_visit : ℕ → ℕ → HistoryView → VisitState
 join_visit id count h = give_visit id count (references_of h)
 
 -- zeros in place of the digest of each bucket, at no horizon
-abbrev pub no_offer : Made
-no_offer = gathered 0 (replicate BUCKETS (replicate DIGEST_SIZE 0))
+abbrev pub nothing_offered : Made
+nothing_offered = gathered 0 (replicate BUCKETS (replicate DIGEST_SIZE 0))
 
+-- each shard offers its digests
 abbrev pub offer_visit : ℕ → ℕ → VisitState
-offer_visit id count = begun id count (at_each count offering) no_offer ends
+offer_visit id count = begun id count (at_each count offering) nothing_offered ends
 
 -- Each shard is raised to the horizon of a message. Then those are given its entries that have
 -- pages of them; or those send that have requested buckets; or all offer, and this is compared.
@@ -284,13 +297,14 @@ receive_visit id count (Entries sender horizon entries) =
 receive_visit id count (Want sender horizon request) =
     begun id count (raise_plan count horizon ++ send_plan count request) (answered []) ends
 receive_visit id count (Digest sender horizon digests) =
-    begun id count (raise_plan count horizon ++ at_each count offering) no_offer (compares digests)
+    begun id count (raise_plan count horizon ++ at_each count offering) nothing_offered (compares digests)
 
 -- the message is one of entries
 abbrev pub HasEntries : Message → Type 0
 HasEntries (Entries sender horizon entries) = Unit {0}
 HasEntries message = ⊥
 
+-- the history of each shard is copied
 abbrev pub copy_visit : ℕ → ℕ → VisitState
 copy_visit id count = begun id count (at_each count copying) (joined (history_of_entries [])) ends
 
@@ -301,9 +315,9 @@ answers_of (answered messages) after = messages
 answers_of made after = []
 
 -- what it offers
-abbrev pub offer_of : ℕ → Made → Option Message
-offer_of id (gathered horizon table) = Some (Digest id horizon table)
-offer_of id made = None
+abbrev pub offer_in : ℕ → Made → Option Message
+offer_in id (gathered horizon table) = Some (Digest id horizon table)
+offer_in id made = None
 
 -- the history that it copied
 abbrev pub copy_of : Made → Option HistoryView

@@ -4,9 +4,11 @@ ghost use Rattle.warm_stamps.specs.declared.TheConstants.{BUCKETS};
 ghost use Rattle.warm_frames.specs.declared.message.Message.{Message};
 ghost use Rattle.warm_peer.specs.Answers.{IsAnswer};
 ghost use Rattle.warm_gossip.specs.declared.fault.NodeFault.TheVariants.{Memory};
-ghost use Rattle.warm_shards.specs.Clauses.{SameShards};
+ghost use Rattle.warm_gossip.specs.declared.call.Call.TheVariants.{Offer};
+ghost use Rattle.warm_gossip.specs.declared.call.Reply.TheVariants.{Sent};
+ghost use Rattle.warm_shards.specs.Clauses.{KeepPools, SameShards, TogetherAnswered};
 ghost use Rattle.warm_shards.specs.Digests.{FillsShard};
-ghost use Rattle.warm_shards.specs.Given.{Receives};
+ghost use Rattle.warm_shards.specs.Given.{ReceivesAll};
 ghost use Rattle.warm_shards.specs.Shards.{AreShards, shard_at, whole};
 ghost use Rattle.warm_shards.specs.Visits.{HasEntries, receive_visit};
 
@@ -52,12 +54,30 @@ pub(crate) fn visited<D: PageDevice>(
     requires count { length nodes.old.items ≡ visit.count }
     ensures { (message : Message) → (HasEntries message → ⊥)
         → visit ≡ receive_visit (shard_at nodes.old.items 0).id (length nodes.old.items) message
-        → Receives message nodes.old.items result nodes.new.items }
+        → ReceivesAll message nodes.old.items result nodes.new.items }
 {
     let mut visit = visit;
     go_through(nodes, &mut visit)?;
     let answers = visit.into_answers(alloc)?;
     Ok(answers)
+}
+
+/// What all nodes together offer.
+pub(crate) fn offer_of_all<D: PageDevice>(
+    alloc: Global,
+    nodes: &mut Vec<Node<D>>,
+) -> Result<Message, NodeFault>
+    requires { AreShards nodes.old.items }
+    ensures shards { AreShards nodes.new.items }
+    ensures step { TogetherAnswered nodes.old.items Offer Sent result nodes.new.items }
+    ensures pools { KeepPools nodes.old.items nodes.new.items }
+{
+    let mut visit = Visit::offer(alloc, nodes[0].id(), nodes.len());
+    go_through(nodes, &mut visit)?;
+    let Some(offer) = visit.offered() else {
+        unreachable!()
+    };
+    Ok(offer)
 }
 
 // A peer that has the history of all shards.

@@ -1,12 +1,13 @@
 //! The digests that shards offer, gathered into one table.
-ghost use Rattle.std.specs.Prelude.{◌<◌};
-ghost use Rattle.warm_shards.specs.VisitReads.{AddsOffer};
+ghost use Rattle.std.specs.Prelude.{◌≡◌, ◌<◌};
+ghost use Rattle.warm_shards.specs.VisitMessages.{final_message};
+ghost use Rattle.warm_shards.specs.VisitReads.{AddsOffer, gathering_visit};
 
 use crate::answers::fill_digests;
 use warm_devices::PageDevice;
 use warm_frames::{DIGEST_SIZE, DigestTable, Message};
 use warm_gossip::{Node, NodeFault};
-use warm_stamps::BUCKETS;
+use warm_stamps::{BUCKETS, ReplicaId};
 
 // What the shards before one have offered.
 #[derive(Drop)]
@@ -45,5 +46,22 @@ impl Gathering {
         self.horizon = self.horizon.max(horizon);
         self.shard += 1;
         Ok(())
+    }
+
+    /// What the shards offer, if all have and nothing is compared.
+    pub(crate) fn offer(&self, id: ReplicaId, count: usize) -> Option<Message>
+        ensures { result ≡ final_message (gathering_visit id count self.now) }
+    {
+        if self.shard < count {
+            return None;
+        }
+        if let Some(_digests) = self.waiting {
+            return None;
+        }
+        Some(Message::Digest {
+            sender: id,
+            horizon: self.horizon,
+            digests: DigestTable::of(self.digests),
+        })
     }
 }

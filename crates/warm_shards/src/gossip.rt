@@ -8,11 +8,10 @@ ghost use Rattle.warm_gossip.specs.declared.call.Reply.TheVariants.{Answers, Sen
 ghost use Rattle.warm_gossip.specs.declared.fault.NodeFault.TheVariants.{Memory};
 ghost use Rattle.warm_shards.specs.Clauses.{JoinsAll, KeepPools, SameShards, TakesInFirst};
 ghost use Rattle.warm_shards.specs.Clauses.{Together, TogetherAnswered};
-ghost use Rattle.warm_shards.specs.Given.{Gives, Receives};
+ghost use Rattle.warm_shards.specs.Given.{Gives, ReceivesAll};
 ghost use Rattle.warm_shards.specs.Shards.{AreShards, shard_at, whole};
 
-use crate::answers::{answered, visited};
-use crate::go_through::go_through;
+use crate::answers::{answered, offer_of_all, visited};
 use crate::history_calls::raise_all;
 use crate::joining::join_parts;
 use crate::shards::Shards;
@@ -33,10 +32,12 @@ fn received<D: PageDevice>(
     message: Message,
 ) -> Result<MessageList, NodeFault>
     requires { AreShards nodes.old.items }
-    ensures { Receives message nodes.old.items result nodes.new.items }
+    ensures { ReceivesAll message nodes.old.items result nodes.new.items }
 {
     if let Message::Entries {
-        horizon, entries, ..
+        horizon,
+        entries,
+        ..
     } = &message
     {
         raise_all(nodes, *horizon);
@@ -105,12 +106,7 @@ impl<D: PageDevice> Shards<D> {
         ensures step { TogetherAnswered self.old Offer Sent result self.new }
         ensures pools { KeepPools self.old self.new }
     {
-        let mut visit = Visit::offer(self.alloc, self.nodes[0].id(), self.nodes.len());
-        go_through(&mut self.nodes, &mut visit)?;
-        let Some(offer) = visit.offered() else {
-            unreachable!()
-        };
-        Ok(offer)
+        offer_of_all(self.alloc, &mut self.nodes)
     }
 
     /// The messages with which all shards together would answer this one, as
@@ -129,7 +125,7 @@ impl<D: PageDevice> Shards<D> {
         answered(self.alloc, &mut self.nodes, message)
     }
 
-    /// Receives a message, and returns the messages that answer it, in order: the call `Receive` of
+    /// ReceivesAll a message, and returns the messages that answer it, in order: the call `Receive` of
     /// the whole. A message may have pages of several shards, and digests have buckets of all.
     ///
     /// Entries go to the shards of their pages, each of which takes all of its own in, or none.

@@ -34,6 +34,7 @@ mod sending;
 mod shards;
 mod shards_of_nodes;
 mod visit;
+mod visit_messages;
 
 pub use answers::fill_digests;
 pub use batch_parts::parts_of;
@@ -42,4 +43,3 @@ pub use message_parts::{part_of_entries, part_of_message};
 pub use pool_calls::ShardSlot;
 pub use shards::{Shards, frames_of_shard, is_shard_count, shard_of};
 pub use visit::Visit;
-

@@ -1,11 +1,12 @@
 //! What a visit reads of shards: their digests, the entries of buckets, or all that they know.
 ghost use Rattle.std.specs.Prelude.{◌≡◌, ◌≢◌, ◌<◌, ◌≤◌, ℕ, [], if◌then◌else◌, nat_lt};
-ghost use Rattle.std.specs.Prelude.{IfOk, IfSome, None, Some};
+ghost use Rattle.std.specs.Prelude.{IfNone, IfOk, IfSome, None, Some};
 ghost use Rattle.warm_frames.specs.declared.layout.TheConstants.{DIGEST_SIZE};
-ghost use Rattle.warm_shards.specs.Visits.{Compares, VisitState, answered, answers_of, at_each};
+ghost use Rattle.warm_shards.specs.VisitMessages.{final_message, first_message, without_message};
+ghost use Rattle.warm_shards.specs.Visits.{ComparesOffers, VisitState, answered, answers_of, at_each};
 ghost use Rattle.warm_shards.specs.Visits.{begun, compares, copy_of, copy_visit, ends, next_shard};
-ghost use Rattle.warm_shards.specs.Visits.{no_offer, offer_of, offer_visit, offering, send_plan};
-ghost use Rattle.warm_shards.specs.VisitReads.{GathersOne, IsPage, IsReading, ReadsOne};
+ghost use Rattle.warm_shards.specs.Visits.{nothing_offered, offer_in, offer_visit, offering, send_plan};
+ghost use Rattle.warm_shards.specs.VisitReads.{GathersOne, IsPageOrNone, IsReadingVisit, ReadsOne};
 ghost use Rattle.warm_shards.specs.VisitReads.{copying_visit, gathered_in};
 ghost use Rattle.warm_shards.specs.VisitReads.{reading_of, sending_visit, waits_for};
 
@@ -47,14 +48,14 @@ pub(crate) struct Copying {
 }
 
 impl Model for Reading {
-    ghost use Rattle.warm_shards.specs.VisitReads.{IsReading, reading_of};
+    ghost use Rattle.warm_shards.specs.VisitReads.{IsReadingVisit, reading_of};
     ghost use Rattle.warm_shards.specs.Visits.{VisitState};
 
     ghost Value = { VisitState };
 
     ghost view = { λ r. reading_of r.id r.count r.task };
 
-    ghost invariant = { λ r. IsReading r.count r.task };
+    ghost invariant = { λ r. IsReadingVisit r.count r.task };
 }
 
 impl Copying {
@@ -74,9 +75,9 @@ impl Copying {
 // The answer to digests, when all shards have offered theirs: the buckets that differ are sent, and
 // then a request for them comes last. Allocation-free.
 fn compared(alloc: Global, gathering: &Gathering, digests: &DigestTable) -> Sending
-    ensures compared { (v : VisitState) → Compares [] (compares digests.now)
+    ensures compared { (v : VisitState) → ComparesOffers [] (compares digests.now)
         (gathered_in gathering.now) v (sending_visit v.id v.count result) }
-    ensures page { IsPage result.after }
+    ensures page { IsPageOrNone result.after }
 {
     let request = differing(digests, &DigestTable::of(gathering.digests));
     // The request is a number of 64 bits.
@@ -124,11 +125,11 @@ fn enter_task<D: PageDevice>(
     task: &mut Task,
     node: &mut Node<D>,
 ) -> Result<(), NodeFault>
-    requires reading { IsReading count task.old }
+    requires reading { IsReadingVisit count task.old }
     requires some { next_shard (reading_of id count task.old) ≢ None }
     ensures read { ReadsOne (reading_of id count task.old) node.old result
         (reading_of id count task.new) node.new }
-    ensures reading { IsReading count task.new }
+    ensures reading { IsReadingVisit count task.new }
 {
     match task {
         Task::Gather(gathering) => {
@@ -149,14 +150,9 @@ fn enter_task<D: PageDevice>(
 
 impl Reading {
     // With no digest yet.
-    fn gathers(
-        alloc: Global,
-        id: ReplicaId,
-        count: usize,
-        waiting: Option<DigestTable>,
-    ) -> Reading
+    fn gathers(alloc: Global, id: ReplicaId, count: usize, waiting: Option<DigestTable>) -> Reading
         requires { 0 < count }
-        ensures { result ≡ begun id count (at_each count offering) no_offer (waits_for waiting) }
+        ensures { result ≡ begun id count (at_each count offering) nothing_offered (waits_for waiting) }
     {
         let gathering = Gathering {
             shard: 0,
@@ -189,18 +185,13 @@ impl Reading {
         digests: DigestTable,
     ) -> Reading
         requires { 0 < count }
-        ensures { result ≡ begun id count (at_each count offering) no_offer (compares digests) }
+        ensures { result ≡ begun id count (at_each count offering) nothing_offered (compares digests) }
     {
         Reading::gathers(alloc, id, count, Some(digests))
     }
 
     /// The requested buckets are sent, each by its shard. Allocation-free.
-    pub(crate) fn sends(
-        alloc: Global,
-        id: ReplicaId,
-        count: usize,
-        request: BucketSet,
-    ) -> Reading
+    pub(crate) fn sends(alloc: Global, id: ReplicaId, count: usize, request: BucketSet) -> Reading
         requires { 0 < count }
         ensures { result ≡ begun id count (send_plan count request) (answered []) ends }
     {
@@ -250,7 +241,7 @@ impl Reading {
 
     /// What all shards offer, once no errand is left.
     pub(crate) fn offer(&self) -> Option<Message>
-        ensures { result ≡ offer_of self.now.id self.now.made }
+        ensures { result ≡ offer_in self.now.id self.now.made }
     {
         let Task::Gather(gathering) = &self.task else {
             return None;
@@ -291,6 +282,46 @@ impl Reading {
         let Copying { shard: _, history } = copying;
         Some(history)
     }
+
+    /// The first message that waits, if one does.
+    pub(crate) fn first_message(&self) -> Option<&Message>
+        ensures some { IfSome result (λ message. first_message self.now ≡ Some message.now) }
+        ensures none { IfNone result (first_message self.now ≡ None) }
+    {
+        match &self.task {
+            Task::Send(sending) => sending.messages.first(),
+            _ => None,
+        }
+    }
+
+    /// The message that comes last, if no errand and no other message is left.
+    pub(crate) fn final_message(&self) -> Option<Message>
+        ensures { result ≡ final_message self.now }
+    {
+        match &self.task {
+            Task::Gather(gathering) => gathering.offer(self.id, self.count),
+            Task::Send(sending) => sending.request(self.id),
+            Task::Copy(_) => None,
+        }
+    }
+
+    /// Passes the first message; or, if there is none, the request.
+    pub(crate) fn pass_message(&mut self)
+        ensures { self.new ≡ without_message self.old }
+    {
+        pass_in(&mut self.task);
+    }
+
+    /// The history that was copied so far.
+    pub(crate) fn history(&self) -> Option<&History>
+        ensures some { IfSome result (λ h. copy_of self.now.made ≡ Some h.now) }
+        ensures none { IfNone result (copy_of self.now.made ≡ None) }
+    {
+        match &self.task {
+            Task::Copy(copying) => Some(&copying.history),
+            _ => None,
+        }
+    }
 }
 
 // The shard of the next errand of a task, if there is one.
@@ -314,4 +345,15 @@ pub(crate) fn below(shard: usize, count: usize) -> Option<usize>
     ensures { result ≡ (if nat_lt shard count then Some shard else None) }
 {
     if shard < count { Some(shard) } else { None }
+}
+
+// Passes the first message, or the request.
+fn pass_in(task: &mut Task)
+    ensures value { (id count : ℕ) → reading_of id count task.new
+        ≡ without_message (reading_of id count task.old) }
+    ensures reading { (count : ℕ) → IsReadingVisit count task.old → IsReadingVisit count task.new }
+{
+    if let Task::Send(sending) = task {
+        sending.pass();
+    }
 }

@@ -2,8 +2,9 @@
 ghost use Rattle.std.specs.Prelude.{◌≡◌, ◌↔◌, ℕ, [], IfOk, IsTrue, OnErr, OnOk, Some};
 ghost use Rattle.warm_frames.specs.Limits.{entries_in};
 ghost use Rattle.warm_peer.specs.Chunks.{last_page};
-ghost use Rattle.warm_shards.specs.VisitReads.{HasNoEntries, IsPage, ReadsOne, asks_for};
+ghost use Rattle.warm_shards.specs.VisitReads.{HasNoEntries, IsPageOrNone, ReadsOne, asks_for};
 ghost use Rattle.warm_shards.specs.VisitReads.{sending_visit};
+ghost use Rattle.warm_shards.specs.VisitMessages.{final_message, without_message};
 ghost use Rattle.warm_shards.specs.Visits.{answered, answers_of, begun, send_plan, with_message};
 
 use std::alloc::{AllocError, Global};
@@ -37,7 +38,7 @@ pub(crate) struct Sending {
 // The page of the last entry of a message.
 fn last_page_of(message: &Message) -> Option<PageId>
     ensures value { result ≡ last_page (entries_in message.now) }
-    ensures page { IsPage result }
+    ensures page { IsPageOrNone result }
 {
     let Message::Entries { entries, .. } = message else {
         return None;
@@ -76,7 +77,7 @@ impl Sending {
     pub(crate) fn of(alloc: Global, request: BucketSet, want: Option<Wanted>) -> Sending
         ensures sends { (id count : ℕ) → sending_visit id count result
             ≡ begun id count (send_plan count request) (answered []) (asks_for id want) }
-        ensures page { IsPage result.after }
+        ensures page { IsPageOrNone result.after }
     {
         let mut later = request.iter();
         let bucket = later.next();
@@ -98,8 +99,8 @@ impl Sending {
         bucket: Bucket,
     ) -> Result<(), NodeFault>
         requires bucket { self.old.bucket ≡ Some bucket }
-        requires page { IsPage self.old.after }
-        ensures page { IsPage self.new.after }
+        requires page { IsPageOrNone self.old.after }
+        ensures page { IsPageOrNone self.new.after }
         ensures sent { (id count : ℕ) → ReadsOne (sending_visit id count self.old) node.now result
             (sending_visit id count self.new) node.now }
     {
@@ -139,5 +140,38 @@ impl Sending {
             })?;
         }
         Ok(messages)
+    }
+
+    /// The request, if no bucket and no message is left.
+    pub(crate) fn request(&self, id: ReplicaId) -> Option<Message>
+        ensures { (count : ℕ) → result ≡ final_message (sending_visit id count self.now) }
+    {
+        if !self.messages.is_empty() {
+            return None;
+        }
+        if let Some(_bucket) = self.bucket {
+            return None;
+        }
+        match &self.want {
+            Some(want) => Some(Message::Want {
+                sender: id,
+                horizon: want.horizon,
+                request: want.request,
+            }),
+            None => None,
+        }
+    }
+
+    /// Passes the first message; or, if there is none, the request.
+    pub(crate) fn pass(&mut self)
+        ensures value { (id count : ℕ) → sending_visit id count self.new
+            ≡ without_message (sending_visit id count self.old) }
+        ensures page { self.new.after ≡ self.old.after }
+    {
+        if !self.messages.is_empty() {
+            let _first = self.messages.remove(0);
+            return;
+        }
+        self.want = None;
     }
 }

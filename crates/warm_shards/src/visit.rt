@@ -9,7 +9,7 @@ ghost use Rattle.warm_shards.specs.VisitParts.{IsReader, earlier, visit_of};
 ghost use Rattle.warm_shards.specs.declared.visit.Work.TheVariants.{Read};
 ghost use Rattle.warm_shards.specs.Visits.{HasEntered, HasEntries, absorb_visit, answers_of};
 ghost use Rattle.warm_shards.specs.Visits.{copy_of, copy_visit, entries_left, give_visit};
-ghost use Rattle.warm_shards.specs.Visits.{join_visit, kept_of, next_shard, offer_of, offer_visit};
+ghost use Rattle.warm_shards.specs.Visits.{join_visit, kept_of, next_shard, offer_in, offer_visit};
 ghost use Rattle.warm_shards.specs.Visits.{raise_visit, receive_visit, result_of};
 
 use crate::batch_parts::parts_of;
@@ -27,18 +27,18 @@ use warm_stamps::{Reference, ReplicaId};
 /// those before have made.
 #[derive(Drop)]
 pub struct Visit {
-    id: ReplicaId,
-    count: usize,
+    pub(crate) id: ReplicaId,
+    pub(crate) count: usize,
     // The time to which each shard is raised first.
-    time: u64,
+    pub(crate) time: u64,
     // The next shard to be raised; the count of shards if none is.
-    rising: usize,
+    pub(crate) rising: usize,
     // The shard of the first errand behind that; the count of shards if there is none.
-    shard: usize,
-    work: Work,
+    pub(crate) shard: usize,
+    pub(crate) work: Work,
     // The earliest horizon that a shard kept, of those raised.
-    kept: Option<u64>,
-    stopped: bool,
+    pub(crate) kept: Option<u64>,
+    pub(crate) stopped: bool,
 }
 
 // What a visit does once all shards are raised that it raises.
@@ -217,16 +217,22 @@ impl Visit {
     {
         match message {
             Message::Entries {
-                horizon, entries, ..
+                horizon,
+                entries,
+                ..
             } => Visit::entries(alloc, id, count, *horizon, entries.as_slice()),
             Message::Digest {
-                horizon, digests, ..
+                horizon,
+                digests,
+                ..
             } => {
                 let reading = Reading::compares(alloc, id, count, *digests);
                 Ok(Visit::reads(id, count, *horizon, 0, reading))
             }
             Message::Want {
-                horizon, request, ..
+                horizon,
+                request,
+                ..
             } => {
                 let reading = Reading::sends(alloc, id, count, *request);
                 Ok(Visit::reads(id, count, *horizon, 0, reading))
@@ -280,7 +286,8 @@ impl Visit {
     {
         match self.work {
             Work::Raise => self.kept,
-            _ => None,
+            Work::Give(_) => None,
+            Work::Read(_) => None,
         }
     }
 
@@ -292,18 +299,20 @@ impl Visit {
     {
         let Visit { work, .. } = self;
         match work {
+            Work::Raise => Ok(MessageList::of(Vec::new(alloc))),
+            Work::Give(_) => Ok(MessageList::of(Vec::new(alloc))),
             Work::Read(reading) => Ok(MessageList::of(reading.into_answers()?)),
-            _ => Ok(MessageList::of(Vec::new(alloc))),
         }
     }
 
     /// What the shards offer, of a visit that offers. Allocation-free.
     pub fn offered(&self) -> Option<Message>
-        ensures { result ≡ offer_of self.now.id self.now.made }
+        ensures { result ≡ offer_in self.now.id self.now.made }
     {
         match &self.work {
+            Work::Raise => None,
+            Work::Give(_) => None,
             Work::Read(reading) => reading.offer(),
-            _ => None,
         }
     }
 
@@ -313,8 +322,9 @@ impl Visit {
     {
         let Visit { work, .. } = self;
         match work {
+            Work::Raise => None,
+            Work::Give(_) => None,
             Work::Read(reading) => reading.into_history(),
-            _ => None,
         }
     }
 
@@ -342,7 +352,7 @@ impl Visit {
                 self.shard = parts.first(self.shard + 1);
             }
             Work::Read(reading) => {
-                if let Err(_why) = reading.enter(node) {
+                if let Err(_refused) = reading.enter(node) {
                     self.stopped = true;
                 }
             }

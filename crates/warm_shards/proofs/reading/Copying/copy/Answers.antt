@@ -1,9 +1,8 @@
-use Rattle.std.proofs.Common.{◌≡◌, ◌+◌, Result, refl, sym, ap, subst}
+use Rattle.std.proofs.Common.{◌+◌, Result, refl, sym, ap, subst}
 use Rattle.std.proofs.lemmas.Result.{err_from_is_err_and}
-use Rattle.warm_history.specs.Histories.{HistoryView, join}
+use Rattle.warm_history.specs.Histories.{HistoryView}
 use Rattle.warm_gossip.specs.declared.fault.NodeFault.{NodeFault}
 use Rattle.warm_shards.specs.VisitReads.{ReadsOne, copying_visit}
-use Rattle.warm_shards.specs.declared.reading.Copying.{Copying}
 use Rattle.warm_shards.proofs.VisitReadsTasks.{copies_one, copies_refused}
 use Rattle.warm_shards.proofs.reading.Copying.copy.Goals as goal
 

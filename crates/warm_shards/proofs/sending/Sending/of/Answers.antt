@@ -1,5 +1,5 @@
 use Rattle.warm_shards.specs.VisitReads.{asks_for}
-use Rattle.warm_shards.proofs.VisitReadsSending.{few_entries, sends_of}
+use Rattle.warm_shards.proofs.VisitReadsSending.{sends_of}
 use Rattle.warm_shards.proofs.sending.Sending.of.Goals as goal
 
 pub returns-clause-sends : goal.returns-clause-sends
