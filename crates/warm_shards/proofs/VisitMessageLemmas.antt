@@ -4,7 +4,7 @@ use Rattle.warm_frames.specs.declared.message.Message.{Message}
 use Rattle.warm_frames.specs.declared.message.Message.TheVariants.{Entries, Digest, Want}
 use Rattle.warm_gossip.specs.State.{NodeState}
 use Rattle.warm_shards.specs.VisitMessages.{TakenAreTheAnswer, first_made, first_message, put_before, with_taken, without_message, without_of}
-use Rattle.warm_shards.specs.Visits.{After, Ask, Enters, Errand, Gathers, Made, Said, Takes, VisitState, answered, copied, copying, gathered, given, giving, goes_on, joined, keeps, nothing, offered, offering, onward, raised, refused, sending, sent, with_history, with_message}
+use Rattle.warm_shards.specs.Visits.{After, Ask, Enters, Errand, GathersOffer, Made, Said, Takes, VisitState, answered, copied, copying, gathered, given, giving, goes_on, joined, keeps, nothing, offered, offering, onward, raised, refused, sending, sent, with_history, with_message}
 
 -- one message more comes behind those that were taken
 sends_behind : (taken ms : List Message) (m : Message)
@@ -28,7 +28,7 @@ module _ (taken ms : List Message) (v w : VisitState) (i : ℕ) (rest : List Err
   takes_so (giving S) (offered horizon table) t = absurd t
   takes_so (giving S) (sent message more) t = absurd t
   takes_so (giving S) (copied h) t = absurd t
-  takes_so offering (offered horizon table) t = absurd (subst (λ (m : Made). Gathers v.count i horizon table m t.0) is t.1.0)
+  takes_so offering (offered horizon table) t = absurd (subst (λ (m : Made). GathersOffer v.count i horizon table m t.0) is t.1.0)
   takes_so offering refused t = ap (with_taken taken) t
   takes_so offering (given horizon) t = absurd t
   takes_so offering (sent message more) t = absurd t
