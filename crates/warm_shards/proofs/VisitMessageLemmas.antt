@@ -1,5 +1,5 @@
 -- Messages that are taken out of a visit before it ends.
-use Rattle.std.proofs.Common.{◌≡◌, ℕ, List, [], ◌∷◌, ◌++◌, Some, None, true, false, refl, sym, ap, subst, ◌∙◌, append_assoc}
+use Rattle.std.proofs.Common.{◌≡◌, ℕ, List, [], ◌∷◌, ◌++◌, Option, Some, None, true, false, refl, sym, ap, subst, ◌∙◌, append_assoc}
 use Rattle.warm_frames.specs.declared.message.Message.{Message}
 use Rattle.warm_frames.specs.declared.message.Message.TheVariants.{Entries, Digest, Want}
 use Rattle.warm_gossip.specs.State.{NodeState}
@@ -28,7 +28,7 @@ module _ (taken ms : List Message) (v w : VisitState) (i : ℕ) (rest : List Err
   takes_so (giving S) (offered horizon table) t = absurd t
   takes_so (giving S) (sent message more) t = absurd t
   takes_so (giving S) (copied h) t = absurd t
-  takes_so offering (offered horizon table) t = absurd (subst (λ (m : Made). GathersOffer v.count i horizon table m t.0) is t.1.0)
+  takes_so offering (offered horizon table) t = absurd (subst (λ (m : Made). GathersOffer v.count i horizon table m t.0) is t.1)
   takes_so offering refused t = ap (with_taken taken) t
   takes_so offering (given horizon) t = absurd t
   takes_so offering (sent message more) t = absurd t
@@ -44,12 +44,17 @@ module _ (taken ms : List Message) (v w : VisitState) (i : ℕ) (rest : List Err
   takes_so copying (offered horizon table) t = absurd t
   takes_so copying (sent message more) t = absurd t
 
+-- what is in an option, or else this
+inside : Message → Option Message → Message
+inside other None = other
+inside other (Some message) = message
+
 -- the first message, taken out, stands behind those before
 took : (taken : List Message) (message : Message) (v : VisitState) (made : Made) → v.made ≡ made → first_made made ≡ Some message
     → with_taken taken v ≡ with_taken (taken ++ message ∷ []) (without_message v)
 took taken message v (answered (m ∷ ms)) is first =
     ap (λ (x : Made). record v { made = put_before taken x }) is
-    ∙ ap (λ (x : List Message). record v { made = answered x }) (ap (λ (n : Message). taken ++ n ∷ ms) (some_same first) ∙ sym (append_assoc taken (message ∷ []) ms))
+    ∙ ap (λ (x : List Message). record v { made = answered x }) (ap (λ (n : Message). taken ++ n ∷ ms) (ap (inside m) first) ∙ sym (append_assoc taken (message ∷ []) ms))
     ∙ sym (ap (λ (x : Made). with_taken (taken ++ message ∷ []) (without_of x v.after v)) is)
 took taken message v (answered []) is first = absurd (cc)
 took taken message v nothing is first = absurd (cc)
