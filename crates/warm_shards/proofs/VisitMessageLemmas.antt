@@ -45,7 +45,7 @@ module _ (taken ms : List Message) (v w : VisitState) (i : ℕ) (rest : List Err
   takes_so copying (sent message more) t = absurd t
 
 -- what is in an option, or else this
-inside : Message → Option Message → Message
+abbrev inside : Message → Option Message → Message
 inside other None = other
 inside other (Some message) = message
 
