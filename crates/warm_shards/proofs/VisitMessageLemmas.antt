@@ -1,10 +1,9 @@
 -- Messages that are taken out of a visit before it ends.
-use Rattle.std.proofs.Common.{◌≡◌, ℕ, List, [], ◌∷◌, ◌++◌, Option, Some, None, true, false, refl, sym, ap, subst, ◌∙◌, append_assoc}
+use Rattle.std.proofs.Common.{◌≡◌, ℕ, List, [], ◌∷◌, ◌++◌, Option, Some, None, refl, sym, ap, subst, ◌∙◌, append_assoc}
 use Rattle.warm_frames.specs.declared.message.Message.{Message}
 use Rattle.warm_frames.specs.declared.message.Message.TheVariants.{Entries, Digest, Want}
-use Rattle.warm_gossip.specs.State.{NodeState}
-use Rattle.warm_shards.specs.VisitMessages.{TakenAreTheAnswer, first_made, first_message, put_before, with_taken, without_message, without_of}
-use Rattle.warm_shards.specs.Visits.{After, Ask, Enters, Errand, GathersOffer, Made, Said, Takes, VisitState, answered, copied, copying, gathered, given, giving, goes_on, joined, keeps, nothing, offered, offering, onward, raised, refused, sending, sent, with_history, with_message}
+use Rattle.warm_shards.specs.VisitMessages.{TakenAreTheAnswer, first_made, put_before, with_taken, without_message, without_of}
+use Rattle.warm_shards.specs.Visits.{Ask, Errand, GathersOffer, Made, Said, Takes, VisitState, answered, copied, copying, gathered, given, giving, goes_on, joined, keeps, nothing, offered, offering, onward, raised, refused, sending, sent, with_history, with_message}
 
 -- one message more comes behind those that were taken
 sends_behind : (taken ms : List Message) (m : Message)
