@@ -25,6 +25,7 @@ pub mod HoldsPagesLemmas
 pub mod LawsHold
 pub mod Examples
 pub mod VisitExamples
+pub mod VisitMessageLemmas
 pub mod VisitReads
 pub mod VisitReadsPortions
 pub mod VisitReadsSends

@@ -139,7 +139,7 @@ no_errand true plan going over = let no : true ≡ false = going in absurd (cc)
 no_errand false [] going over = refl
 no_errand false (e ∷ es) going over = let no : Some e.shard ≡ None = over in absurd (cc)
 
--- where no errand is left at a shard, all shards had theirs
+-- if no errand is left at a shard, all shards had theirs
 pub all_there : (k count : ℕ) (ask : Ask) (stopped : Bool) → k ≤ count → stopped ≡ false
     → shard_next stopped (from_shard k count ask) ≡ None → k ≡ count
 all_there k count ask stopped le going over = elim (cases_eq k count) [

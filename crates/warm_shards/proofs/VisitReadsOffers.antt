@@ -100,7 +100,7 @@ gathers_more old ns k latest horizon table own (gathered later filled) are lt sa
     (later, filled, refl, offered_more old ns k latest later table own filled are lt same is (gathers.0 ∙ ap (λ (x : ℕ). max latest x) at) gathers.1 have)
 gathers_more old ns k latest horizon table own made are lt same at is gathers have = absurd gathers
 
--- the next shard has offered, and these digests are compared where all have
+-- the next shard has offered, and these digests are compared once all have
 pub record HasOffered (old : List NodeState) (after : After) (k : ℕ) (y : Alone) : Type 0 where
   pub same : SameShards old y.shards
   pub latest : ℕ
@@ -169,13 +169,13 @@ goes_next old after k y lt have visit = record {
   offered = have.offered;
 }
 
--- where nothing is compared
+-- if nothing is compared
 pub nothing_compared : (rest : List Errand) (made : Made) (v w : VisitState)
     → ComparesOffers rest ends made v w → w ≡ v
 nothing_compared [] made v w is = is
 nothing_compared (e ∷ rest) made v w is = is
 
--- where a shard has not offered yet
+-- if a shard has not offered yet
 pub not_compared : (e : Errand) (es rest : List Errand) (after : After) (made : Made)
     (v w : VisitState) → rest ≡ e ∷ es → ComparesOffers rest after made v w → w ≡ v
 not_compared e es rest after made v w more is =

@@ -39,7 +39,7 @@ all_recent : (es : List Entry) → recent_entries 0 es ≡ es
 all_recent [] = refl
 all_recent (e ∷ es) = rw (always_recent e.hist) (ap (λ t. e ∷ t) (all_recent es))
 
--- where no page was sent, all are left
+-- if no page was sent, all are left
 whole_bucket : (h : HistoryView) (bucket : ℕ)
     → left_of_bucket h bucket None ≡ bucket_entries bucket (entries_of h)
 whole_bucket h bucket =

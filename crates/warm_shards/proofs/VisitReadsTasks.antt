@@ -64,7 +64,7 @@ copies_refused id count c n lt = (
 
 -- ---- an offer
 
--- nothing is compared where a shard has not offered yet, or where no digests wait
+-- nothing is compared if a shard has not offered yet, or if no digests wait
 compares_none : (rest : List Errand) (after : After) (made : Made) (v : VisitState)
     → ((e : Errand) × (es : List Errand) × (rest ≡ e ∷ es)) ⊎ (after ≡ ends)
     → ComparesOffers rest after made v v

@@ -113,7 +113,7 @@ reading_of id count (Gather g) = gathering_visit id count g
 reading_of id count (Send s) = sending_visit id count s
 reading_of id count (Copy c) = copying_visit id count c
 
--- where digests wait, some shard has not offered yet
+-- if digests wait, some shard has not offered yet
 abbrev pub IsBeforeLast : ℕ → ℕ → Option (List (List ℕ)) → Type 0
 IsBeforeLast shard count None = shard ≤ count
 IsBeforeLast shard count (Some digests) = shard < count

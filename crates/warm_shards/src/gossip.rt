@@ -125,7 +125,7 @@ impl<D: PageDevice> Shards<D> {
         answered(self.alloc, &mut self.nodes, message)
     }
 
-    /// ReceivesAll a message, and returns the messages that answer it, in order: the call `Receive` of
+    /// Receives a message, and returns the messages that answer it, in order: the call `Receive` of
     /// the whole. A message may have pages of several shards, and digests have buckets of all.
     ///
     /// Entries go to the shards of their pages, each of which takes all of its own in, or none.

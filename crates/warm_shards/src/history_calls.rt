@@ -35,7 +35,7 @@ fn absorb_alone<D: PageDevice>(
     nodes[shard].absorb(batch)
 }
 
-// Each node absorbs its part of the batch. It is copied only where it has pages of several shards.
+// Each node absorbs its part of the batch. It is copied only if it has pages of several shards.
 fn absorb_parts<D: PageDevice>(
     alloc: Global,
     nodes: &mut Vec<Node<D>>,

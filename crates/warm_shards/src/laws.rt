@@ -7,6 +7,7 @@ ghost use Rattle.warm_shards.specs.PartLaws.{BatchIsOfParts, DigestsAreGathered,
 ghost use Rattle.warm_shards.specs.PartLaws.{HistoryIsOfParts, MessageIsOfParts, OneTakesIn};
 ghost use Rattle.warm_shards.specs.VisitLaws.{ErrandsAreOwn, GivingIsOneNode, ReadingIsOneNode};
 ghost use Rattle.warm_shards.specs.VisitLaws.{WholeIsGiven};
+ghost use Rattle.warm_shards.specs.VisitMessages.{TakenAreTheAnswer};
 
 /// Whatever references all shards together stand for, after a call of the whole they stand for
 /// those with what the call gave: that of a batch, of a message, of a horizon. So they stand for
@@ -85,4 +86,10 @@ pub fn visit_gives_the_whole()
 /// it becomes, whatever others do between two entries.
 pub fn errands_are_own()
     ensures { ErrandsAreOwn }
+{}
+
+/// Whoever takes the messages of an answer out as they are made has, with those that are left, the
+/// answer.
+pub fn taken_are_the_answer()
+    ensures { TakenAreTheAnswer }
 {}

@@ -75,7 +75,7 @@ fn earlier_of(kept: Option<u64>, horizon: u64) -> u64
 
 /// The entries of a history.
 ///
-/// `AllocError` occurs only where an allocation fails.
+/// `AllocError` occurs only if an allocation fails.
 pub(crate) fn entries_of(alloc: Global, history: &History) -> Result<Vec<Entry>, AllocError>
     ensures { IfOk result (λ entries. entries.items ≡ entries_of history.now) }
 {
@@ -86,7 +86,7 @@ impl Visit {
     /// The visit in which each shard absorbs the references of a batch to its pages. The batch is
     /// copied.
     ///
-    /// `AllocError` occurs only where an allocation fails.
+    /// `AllocError` occurs only if an allocation fails.
     pub fn absorb(
         alloc: Global,
         id: ReplicaId,
@@ -130,7 +130,7 @@ impl Visit {
     /// The visit in which each shard takes in the entries of its pages, at their horizon. The
     /// entries are copied.
     ///
-    /// `AllocError` occurs only where an allocation fails.
+    /// `AllocError` occurs only if an allocation fails.
     pub fn entries(
         alloc: Global,
         id: ReplicaId,
@@ -159,7 +159,7 @@ impl Visit {
     /// The visit in which each shard takes in what a history says of its pages. The history is
     /// copied.
     ///
-    /// `AllocError` occurs only where an allocation fails.
+    /// `AllocError` occurs only if an allocation fails.
     pub fn join(
         alloc: Global,
         id: ReplicaId,
