@@ -415,20 +415,17 @@ int node_last_failure(node *of, bool *found, node_failure *failure) {
 
 /* ---- histories and frames ---- */
 
-int node_absorb(node *of, const node_reference *references, size_t count) {
-    fake *its = fake_in(of);
+static bool fake_replicas(const node_reference *references, size_t count) {
     for (size_t at = 0; at < count; at++)
-        if (references[at].replica == 0 || references[at].replica > 64)
-            return fake_out(of, WARM_BAD_REPLICA);
-    if (!fake_memory()) return fake_out(of, WARM_MEMORY);
-    its->known += count;
-    return fake_out(of, WARM_OK);
+        if (references[at].replica == 0 || references[at].replica > 64) return false;
+    return true;
 }
 
-int node_raise(node *of, uint64_t time, uint64_t *horizon) {
+int node_absorb(node *of, const node_reference *references, size_t count) {
     fake *its = fake_in(of);
-    if (its->horizon < time) its->horizon = time;
-    *horizon = its->horizon;
+    if (!fake_replicas(references, count)) return fake_out(of, WARM_BAD_REPLICA);
+    if (!fake_memory()) return fake_out(of, WARM_MEMORY);
+    its->known += count;
     return fake_out(of, WARM_OK);
 }
 
@@ -488,61 +485,6 @@ int node_load(node *of, int number, uint64_t length) {
     return fake_out(of, fake_load(&fake_in(of)->known, number, length));
 }
 
-/* A history alone is how many references it took in. */
-static size_t *fake_known(peer *of) {
-    MUST(of->is_open);
-    return of->at;
-}
-
-int peer_open(peer *of, uint16_t replica) {
-    MUST(!of->is_open && replica > 0 && replica <= 64);
-    size_t *made = malloc(sizeof(size_t));
-    if (made == NULL) return WARM_MEMORY;
-    *made = 0;
-    *of = (peer){.is_open = true, .at = made};
-    return WARM_OK;
-}
-
-void peer_close(peer *of) {
-    if (of->is_open) free(of->at);
-    *of = (peer){0};
-}
-
-int peer_list(peer *of, node_page *pages, size_t room, size_t *count) {
-    return fake_list(*fake_known(of), pages, room, count);
-}
-
-int peer_save(peer *of, int number) { return fake_save(*fake_known(of), number); }
-
-int peer_load(peer *of, int number, uint64_t length) {
-    return fake_load(fake_known(of), number, length);
-}
-
-int peer_gather(peer *into, node *from) {
-    fake *its = fake_in(from);
-    bool has_memory = fake_memory();
-    if (has_memory) *fake_known(into) += its->known;
-    return fake_out(from, has_memory ? WARM_OK : WARM_MEMORY);
-}
-
-/* Each shard has as many of its references as any other. */
-int node_join_part(node *into, size_t shards, size_t number, peer *from) {
-    fake *its = fake_in(into);
-    MUST(number < shards);
-    if (!fake_memory()) return fake_out(into, WARM_MEMORY);
-    its->known += *fake_known(from) / shards;
-    return fake_out(into, WARM_OK);
-}
-
-int node_digests(node *of, size_t shards, size_t number, node_table *table, uint64_t *horizon) {
-    fake *its = fake_in(of);
-    if (!fake_memory()) return fake_out(of, WARM_MEMORY);
-    for (size_t bucket = number; bucket < 64; bucket += shards)
-        table->digests[bucket][0] = its->known > 0;
-    if (its->horizon > *horizon) *horizon = its->horizon;
-    return fake_out(of, WARM_OK);
-}
-
 static int fake_put(
     uint8_t first, uint64_t second, size_t needed, uint8_t *frame, size_t room, size_t *length) {
     if (!fake_memory()) return WARM_MEMORY;
@@ -556,78 +498,259 @@ static int fake_put(
 
 /* A frame is its kind, its horizon, and of digests one byte for each bucket, of a request one byte
  * for each of buckets 0 to 7, of entries the bucket and, high byte first, how many there are. */
-int node_offer_frame(uint16_t replica, uint64_t horizon, const node_table *table, uint8_t *frame,
-    size_t room, size_t *length) {
-    MUST(replica > 0);
-    int status = fake_put(NODE_DIGESTS, horizon, 66, frame, room, length);
-    for (int bucket = 0; status == WARM_OK && bucket < 64; bucket++)
-        frame[2 + bucket] = table->digests[bucket][0];
-    return status;
-}
-
-int node_want_frame(uint16_t replica, uint64_t horizon, uint64_t buckets, uint8_t *frame,
-    size_t room, size_t *length) {
-    MUST(replica > 0);
-    int status = fake_put(NODE_REQUEST, horizon, 10, frame, room, length);
-    for (int bucket = 0; status == WARM_OK && bucket < 8; bucket++)
-        frame[2 + bucket] = (uint8_t)(buckets >> bucket & 1);
-    return status;
-}
-
-/* Entries are of pages of shard 0, and of shard 2 too if there are two or more, and that shard. */
-int node_read_frame(size_t shards, uint64_t limit, uint64_t horizon_limit, const uint8_t *frame,
-    size_t length, node_frame *what) {
-    if (length < 10) return WARM_TRUNCATED;
-    if (frame[1] > limit || frame[1] > horizon_limit) return WARM_LATE_HORIZON;
-    if (!fake_memory()) return WARM_MEMORY;
-    *what = (node_frame){.kind = frame[0], .horizon = frame[1]};
-    if (frame[0] == NODE_ENTRIES) what->entries = (size_t)frame[3] << 8 | frame[4];
-    if (what->entries > 0) what->shards = shards > 2 && what->entries > 1 ? 5 : 1;
-    for (int bucket = 0; frame[0] == NODE_REQUEST && bucket < 8; bucket++)
-        what->buckets |= (uint64_t)frame[2 + bucket] << bucket;
-    return WARM_OK;
-}
-
-int node_receive_part(node *of, size_t shards, size_t number, const uint8_t *frame, size_t length) {
-    fake *its = fake_in(of);
-    MUST(number < shards && length >= 10);
-    if (!fake_memory()) return fake_out(of, WARM_MEMORY);
-    if (its->horizon < frame[1]) its->horizon = frame[1];
-    its->known++;
-    return fake_out(of, WARM_OK);
-}
-
-int node_differing(
-    const node_table *table, const uint8_t *frame, size_t length, uint64_t *buckets) {
-    MUST(length == 66);
-    if (!fake_memory()) return WARM_MEMORY;
-    *buckets = 0;
-    for (int bucket = 0; bucket < 64; bucket++)
-        *buckets |= (uint64_t)(table->digests[bucket][0] != frame[2 + bucket]) << bucket;
-    return WARM_OK;
-}
+enum { FAKE_ENTRIES = 1, FAKE_DIGESTS = 2, FAKE_REQUEST = 3 };
 
 /* Two frames of a bucket of which something is known, of page 1 and of page 2; an empty one of any
- * other, if that is asked for. */
+ * other. */
+static int fake_send(
+    const fake *its, uint8_t bucket, uint8_t *frame, size_t room, size_t *length) {
+    bool is_empty = its->known == 0;
+    int status = fake_put(
+        FAKE_ENTRIES, its->horizon, is_empty ? FAKE_EMPTY : FAKE_FULL, frame, room, length);
+    if (status != WARM_OK) return status;
+    frame[2] = bucket;
+    frame[4] = !is_empty;
+    return WARM_OK;
+}
+
 int node_send_since(node *of, uint8_t bucket, uint64_t since, bool has_after, node_page after,
-    bool even_empty, uint8_t *frame, size_t room, size_t *length, size_t *entries, bool *more,
-    node_page *last) {
+    uint8_t *frame, size_t room, size_t *length, size_t *entries, bool *more, node_page *last) {
     fake *its = fake_in(of);
     bool is_empty = its->known == 0;
     if (bucket > 63) return fake_out(of, WARM_BAD_BUCKET);
     MUST(since == 0 && (!has_after || after.no == 1));
-    if (!fake_memory()) return fake_out(of, WARM_MEMORY);
-    if (even_empty || !is_empty) {
-        int status = fake_put(
-            NODE_ENTRIES, its->horizon, is_empty ? FAKE_EMPTY : FAKE_FULL, frame, room, length);
-        if (status != WARM_OK) return fake_out(of, status);
-        frame[2] = bucket;
-        frame[4] = !is_empty;
-    }
+    int status = fake_send(its, bucket, frame, room, length);
+    if (status != WARM_OK) return fake_out(of, status);
     *entries = !is_empty;
     *more = !is_empty && !has_after;
     if (!is_empty) last->no = has_after ? 2 : 1;
     return fake_out(of, WARM_OK);
 }
+
+/* ---- visits ---- */
+
+/* What a visit does in each shard, once it has raised all that it raises. */
+typedef enum { FAKE_NOTHING, FAKE_GIVING, FAKE_OFFERING, FAKE_COPYING, FAKE_SENDING } fake_work;
+
+typedef struct fake_visit {
+    uint16_t replica;
+    size_t shards;
+    fake_work work;
+    size_t rising, at; /* the shards that are raised and worked in next */
+    uint64_t time, kept, latest;
+    size_t each[64]; /* how many references the shards are given */
+    size_t copied;
+    uint8_t digests[64], others[64];
+    uint64_t buckets; /* of which entries are to be sent; second: their second message */
+    bool is_stopped, compares, requests, second;
+    uint8_t message[66]; /* that waits */
+    size_t length;       /* 0: none does */
+    void *block;
+} fake_visit;
+
+static fake_visit *fake_visit_of(const visit *of) {
+    MUST(of->is_open);
+    return of->at;
+}
+
+int visit_open(visit *of, uint16_t replica, size_t shards) {
+    MUST(!of->is_open && replica > 0 && replica <= 64 && shards > 0 && shards <= 64);
+    fake_visit *made = malloc(sizeof(fake_visit));
+    if (made == NULL) return WARM_MEMORY;
+    *made = (fake_visit){.replica = replica, .shards = shards, .rising = shards};
+    *of = (visit){.is_open = true, .at = made};
+    return WARM_OK;
+}
+
+/* What it allocates is freed by the next one. */
+static fake_visit *fake_begin(visit *of, fake_work work, void *block) {
+    fake_visit *its = fake_visit_of(of);
+    free(its->block);
+    *its = (fake_visit){.replica = its->replica,
+        .shards = its->shards,
+        .rising = its->shards,
+        .work = work,
+        .kept = UINT64_MAX,
+        .block = block};
+    return its;
+}
+
+void visit_end(visit *of) { fake_begin(of, FAKE_NOTHING, NULL); }
+
+void visit_close(visit *of) {
+    if (!of->is_open) return;
+    visit_end(of);
+    free(of->at);
+    *of = (visit){0};
+}
+
+void visit_swap(visit *of, visit *other) {
+    visit its = *of;
+    *of = *other;
+    *other = its;
+}
+
+int visit_absorb(visit *of, const node_reference *references, size_t count) {
+    if (!fake_replicas(references, count)) return WARM_BAD_REPLICA;
+    void *block = malloc(1);
+    if (block == NULL) return WARM_MEMORY;
+    fake_visit *its = fake_begin(of, FAKE_GIVING, block);
+    for (size_t at = 0; at < count; at++)
+        its->each[(references[at].dev + references[at].no) % its->shards]++;
+    return WARM_OK;
+}
+
+int visit_raise(visit *of, uint64_t time) {
+    fake_visit *its = fake_begin(of, FAKE_NOTHING, NULL);
+    its->rising = 0;
+    its->time = time;
+    return WARM_OK;
+}
+
+int visit_offer(visit *of) {
+    fake_begin(of, FAKE_OFFERING, NULL);
+    return WARM_OK;
+}
+
+int visit_copy(visit *of) {
+    fake_begin(of, FAKE_COPYING, NULL);
+    return WARM_OK;
+}
+
+/* Each shard has as many of its references as any other. */
+int visit_load(visit *of, int number, uint64_t length) {
+    size_t read = 0;
+    int status = fake_load(&read, number, length);
+    if (status != WARM_OK) return status;
+    void *block = malloc(1);
+    if (block == NULL) return WARM_MEMORY;
+    fake_visit *its = fake_begin(of, FAKE_GIVING, block);
+    its->rising = 0;
+    for (size_t number_of = 0; number_of < its->shards; number_of++)
+        its->each[number_of] = read / its->shards;
+    return WARM_OK;
+}
+
+/* Entries are one of shard 0 and, if there are two, one of shard 2, where there is that shard. */
+int visit_receive(visit *of, const node_limits *limits, const uint8_t *frame, size_t length) {
+    static const fake_work works[] = {FAKE_NOTHING, FAKE_GIVING, FAKE_OFFERING, FAKE_SENDING};
+    if (length < 10) return WARM_TRUNCATED;
+    size_t entries = frame[0] == FAKE_ENTRIES ? (size_t)frame[3] << 8 | frame[4] : 0;
+    if (frame[1] > limits->time || frame[1] > limits->horizon) return WARM_LATE_HORIZON;
+    if (entries > 0 && (limits->known > limits->pages || entries > limits->pages - limits->known))
+        return WARM_TOO_MANY_PAGES;
+    void *block = malloc(1);
+    if (block == NULL) return WARM_MEMORY;
+    fake_visit *its = fake_begin(of, works[frame[0]], block);
+    its->rising = 0;
+    its->time = frame[1];
+    its->each[0] = entries > 0;
+    if (its->shards > 2) its->each[2] = entries > 1;
+    its->compares = frame[0] == FAKE_DIGESTS;
+    if (its->compares) memcpy(its->others, frame + 2, 64);
+    for (int bucket = 0; frame[0] == FAKE_REQUEST && bucket < 8; bucket++)
+        its->buckets |= (uint64_t)frame[2 + bucket] << bucket;
+    return WARM_OK;
+}
+
+bool visit_next(visit *of, size_t *number) {
+    fake_visit *its = fake_visit_of(of);
+    if (its->is_stopped || its->length > 0) return false;
+    while (its->work == FAKE_GIVING && its->at < its->shards && its->each[its->at] == 0) its->at++;
+    bool is_left = its->work == FAKE_SENDING ? its->buckets != 0
+                                             : its->work != FAKE_NOTHING && its->at < its->shards;
+    if (its->rising < its->shards)
+        *number = its->rising;
+    else if (is_left)
+        *number = its->work == FAKE_SENDING ? __builtin_ctzll(its->buckets) % its->shards : its->at;
+    return its->rising < its->shards || is_left;
+}
+
+static void fake_raise(fake_visit *its, fake *in) {
+    if (in->horizon < its->time) in->horizon = its->time;
+    if (in->horizon < its->kept) its->kept = in->horizon;
+    its->rising++;
+}
+
+static void fake_offer(fake_visit *its, const fake *in) {
+    for (size_t bucket = its->at; bucket < 64; bucket += its->shards)
+        its->digests[bucket] = in->known > 0;
+    if (in->horizon > its->latest) its->latest = in->horizon;
+    if (++its->at < its->shards || !its->compares) return;
+    for (int bucket = 0; bucket < 64; bucket++)
+        its->buckets |= (uint64_t)(its->digests[bucket] != its->others[bucket]) << bucket;
+    its->requests = its->buckets != 0;
+    for (int bucket = 0; bucket < 8; bucket++) its->others[bucket] = its->buckets >> bucket & 1;
+    its->work = FAKE_SENDING;
+}
+
+static void fake_send_next(fake_visit *its, const fake *in) {
+    uint8_t bucket = (uint8_t)__builtin_ctzll(its->buckets);
+    if (in->known > 0) {
+        fake_send(in, bucket, its->message, sizeof its->message, &its->length);
+        its->second = !its->second;
+    }
+    if (!its->second) its->buckets &= its->buckets - 1;
+}
+
+static void fake_work_in(fake_visit *its, fake *in) {
+    if (its->work == FAKE_GIVING) in->known += its->each[its->at++];
+    if (its->work == FAKE_COPYING) its->at++, its->copied += in->known;
+    if (its->work == FAKE_SENDING)
+        fake_send_next(its, in);
+    else if (its->work == FAKE_OFFERING)
+        fake_offer(its, in);
+}
+
+void visit_enter(visit *of, node *into) {
+    fake_visit *its = fake_visit_of(of);
+    fake *in = fake_in(into);
+    if (its->rising < its->shards)
+        fake_raise(its, in);
+    else if (fake_memory())
+        fake_work_in(its, in);
+    else
+        its->is_stopped = true;
+    fake_out(into, WARM_OK);
+}
+
+int visit_status(visit *of) {
+    fake_visit *its = fake_visit_of(of);
+    bool was_stopped = its->is_stopped;
+    its->is_stopped = false;
+    return was_stopped ? WARM_MEMORY : WARM_OK;
+}
+
+int visit_kept(visit *of, uint64_t *horizon) {
+    *horizon = fake_visit_of(of)->kept;
+    return WARM_OK;
+}
+
+/* What waits; of a visit that only offers, the offer; or the request, once. */
+int visit_message(visit *of, uint8_t *frame, size_t room, size_t *length) {
+    fake_visit *its = fake_visit_of(of);
+    int status = WARM_OK;
+    if (its->work == FAKE_OFFERING) {
+        status = fake_put(FAKE_DIGESTS, its->latest, 66, frame, room, length);
+        if (status == WARM_OK) memcpy(frame + 2, its->digests, 64);
+    } else if (its->length > 0) {
+        status = fake_put(FAKE_ENTRIES, 0, its->length, frame, room, length);
+        if (status == WARM_OK) memcpy(frame, its->message, its->length);
+        if (status == WARM_OK) its->length = 0;
+    } else if (its->requests) {
+        status = fake_put(FAKE_REQUEST, its->latest, 10, frame, room, length);
+        if (status == WARM_OK) memcpy(frame + 2, its->others, 8);
+        its->requests = status != WARM_OK;
+    } else {
+        *length = 0;
+    }
+    return status;
+}
+
+int visit_list(visit *of, node_page *pages, size_t room, size_t *count) {
+    return fake_list(fake_visit_of(of)->copied, pages, room, count);
+}
+
+int visit_save(visit *of, int number) { return fake_save(fake_visit_of(of)->copied, number); }
 
 #endif

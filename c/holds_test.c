@@ -224,14 +224,14 @@ static void test_counting(void) {
     OK(warm_close(&second));
     MUST(hits(&first) == before + 6);
     int there = blocks;
-    for (granted = 1; granted < 3; granted++) { /* for the handle itself, but not for its buffers */
+    for (granted = 1; granted < 5; granted++) { /* for the handle, but not for all that it has */
         size_t grants = granted;
         MUST(warm_attach(&first, &second) == WARM_MEMORY && second.at == NULL && blocks == there);
         granted = grants;
     }
     OK(warm_attach(&first, &second));
     granted = SIZE_MAX;
-    MUST(((opened *)second.at)->holds == its && blocks == there + 3);
+    MUST(((opened *)second.at)->holds == its && blocks == there + 5);
     warm_slot slot = hold_page(&second, 0);
     uint8_t byte;
     OK(warm_mark_dirty(&second, slot));

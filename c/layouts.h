@@ -1,6 +1,6 @@
 /*
  * layouts.h: what the types of nodes.h are in the proved part (crates/warm_c_base/src/values.rt and
- * counters.rt; crates/warm_c/src/handle.rt, peer_handle.rt and frame_parts.rt), and those of
+ * counters.rt; crates/warm_c/src/handle.rt, visit_handle.rt and message_limits.rt), and those of
  * include/warm.h in every program that was built with it: a change here needs a new SONAME. Not
  * installed.
  */
@@ -18,17 +18,17 @@ _Static_assert(sizeof(size_t) == 8 && sizeof(bool) == 1, "lengths have 64 bits, 
 SIZE_IS(node, 16);
 FIELD_IS(node, is_open, 0, 1);
 FIELD_IS(node, at, 8, 8);
-SIZE_IS(peer, 16);
-FIELD_IS(peer, is_open, 0, 1);
-FIELD_IS(peer, at, 8, 8);
+SIZE_IS(visit, 16);
+FIELD_IS(visit, is_open, 0, 1);
+FIELD_IS(visit, at, 8, 8);
 SIZE_IS(node_page, 16);
 FIELD_IS(node_page, no, 0, 8);
 FIELD_IS(node_page, dev, 8, 2);
 SIZE_IS(node_reference, 24);
-FIELD_IS(node_reference, time, 0, 8);
+FIELD_IS(node_reference, replica, 0, 2);
+FIELD_IS(node_reference, dev, 2, 2);
 FIELD_IS(node_reference, no, 8, 8);
-FIELD_IS(node_reference, dev, 16, 2);
-FIELD_IS(node_reference, replica, 18, 2);
+FIELD_IS(node_reference, time, 16, 8);
 SIZE_IS(node_slot, 16);
 FIELD_IS(node_slot, generation, 0, 8);
 FIELD_IS(node_slot, index, 8, 4);
@@ -53,13 +53,11 @@ FIELD_IS(node_failure, no, 0, 8);
 FIELD_IS(node_failure, dev, 8, 2);
 FIELD_IS(node_failure, what, 10, 2);
 FIELD_IS(node_failure, error, 12, 4);
-SIZE_IS(node_table, 2048);
-SIZE_IS(node_frame, 40);
-FIELD_IS(node_frame, horizon, 0, 8);
-FIELD_IS(node_frame, shards, 8, 8);
-FIELD_IS(node_frame, buckets, 16, 8);
-FIELD_IS(node_frame, entries, 24, 8);
-FIELD_IS(node_frame, kind, 32, 1);
+SIZE_IS(node_limits, 32);
+FIELD_IS(node_limits, time, 0, 8);
+FIELD_IS(node_limits, horizon, 8, 8);
+FIELD_IS(node_limits, pages, 16, 8);
+FIELD_IS(node_limits, known, 24, 8);
 /* node_pin writes a slot's index and the shard after it as one number, and so does put_place. */
 _Static_assert(__BYTE_ORDER__ == __ORDER_LITTLE_ENDIAN__, "the lowest byte of a number is first");
 _Static_assert(sizeof(shard) % LINE == 0 && sizeof(opened) % LINE == 0, "whole lines");

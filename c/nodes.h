@@ -1,14 +1,13 @@
 /*
  * nodes.h: the proved part of the library, for the files of c/ alone. It is not installed.
  *
- * A replica has one node for each shard. Each function below is proved of one node, or of no node
- * at all; the locks of shards, and which node is asked, are in shards.h. What a function above
- * "Parts" does of a node, include/warm.h says of a replica: node_NAME is warm_NAME there, but
- * node_victim is warm_victims and node_close is warm_abandon. proved.h has how the types here
- * become those there. Statuses have the same numbers, and what the header says of refused calls and
- * of pointers holds for all of them.
+ * A replica has one node for each shard. Each function below is proved of one node, or of a visit;
+ * the locks of shards are in shards.h. What a function of the first list does of a node,
+ * include/warm.h says of a replica: node_NAME is warm_NAME there, but node_victim is warm_victims
+ * and node_close is warm_abandon. proved.h has how the types here become those there. Statuses have
+ * the same numbers, and what the header says of refused calls and of pointers holds for all.
  *
- * One call at a time uses a node. The shard of a slot that a function writes is 0; that of a slot
+ * One call at a time uses a handle. The shard of a slot that a function writes is 0; that of a slot
  * that is passed is not looked at. A message is called a frame here, as the proved part calls it.
  */
 #ifndef NODES_H
@@ -24,8 +23,8 @@ typedef struct node_page {
 } node_page;
 
 typedef struct node_reference {
-    uint64_t time, no;
-    uint16_t dev, replica;
+    uint16_t replica, dev;
+    uint64_t no, time;
 } node_reference;
 
 typedef struct node_slot {
@@ -74,7 +73,6 @@ int node_resident(node *handle, node_page page, bool *resident);
 int node_victim(node *handle, bool *found, node_page *page);
 int node_list(node *handle, node_page *pages, size_t room, size_t *count);
 int node_step(node *handle, bool *found, node_page *page);
-int node_raise(node *handle, uint64_t time, uint64_t *horizon);
 int node_write_back_page(node *handle, node_page page, bool *written);
 int node_flush_device(node *handle, uint16_t dev);
 int node_forget_pages(node *handle, uint16_t dev, uint64_t from);
@@ -86,11 +84,7 @@ int node_history_length(node *handle, size_t *length);
 int node_save(node *handle, int fd);
 int node_load(node *handle, int fd, uint64_t length);
 
-/*
- * Parts. shards is how many shards there are (1, 2, 4 to 64), and shard one of them, from 0. The
- * shard of a page is its bucket (docs/FORMATS.md), modulo shards. A function that returns a status
- * refuses other numbers first: WARM_BAD_SHARDS, then WARM_NO_SHARD.
- */
+/* What the header does not say of a replica. */
 
 /* Pins a page as node_pin does, and writes where its bytes lie, as node_bytes does.
  * Refused as node_pin is; the slot and the pointer are unchanged then. */
@@ -119,68 +113,11 @@ int node_next_dirty(node *handle, size_t from, bool *found, size_t *frame, node_
 
 /* Writes the frame of the first 1000 entries of a bucket, of those with a stamp from the time since
  * on and, if has_after, of a page greater than after; its length; how many entries it has; whether
- * more of them follow; and the page of the last one. If there is none, last is as it was; so are
- * frame and length, unless even_empty.
+ * more of them follow; and the page of the last one. Where there is none, last is as it was.
  * Refused: WARM_BAD_BUCKET; WARM_MEMORY; WARM_BUFFER_TOO_SMALL: length is then the room that it
  * needs. */
 int node_send_since(node *handle, uint8_t bucket, uint64_t since, bool has_after, node_page after,
-    bool even_empty, uint8_t *frame, size_t room, size_t *length, size_t *entries, bool *more,
-    node_page *last);
-
-/* The digests of all buckets, that of bucket 0 first. */
-typedef struct node_table {
-    uint8_t digests[64][32];
-} node_table;
-
-/* What a frame is. */
-enum { NODE_ENTRIES = 1, NODE_DIGESTS = 2, NODE_REQUEST = 3 };
-
-typedef struct node_frame {
-    uint64_t horizon;
-    uint64_t shards;  /* of entries: bit i if an entry is of a page of shard i; else 0 */
-    uint64_t buckets; /* of a request: bit i if bucket i is requested; else 0 */
-    size_t entries;   /* how many entries it has; 0 of digests and of a request */
-    uint8_t kind;     /* NODE_ENTRIES, NODE_DIGESTS or NODE_REQUEST */
-} node_frame;
-
-/* Writes what a frame is, if no time in it is later than the limit, and its horizon is not later
- * than a limit of its own.
- * Refused: WARM_TRUNCATED to WARM_BAD_ORDER, by the first fault from left to right;
- * WARM_LATE_HORIZON, if it is later than one of both limits; WARM_LATE_STAMP; WARM_MEMORY at any
- * point. */
-int node_read_frame(size_t shards, uint64_t limit, uint64_t horizon_limit, const uint8_t *frame,
-    size_t length, node_frame *what);
-
-/* Of a frame of entries: raises the node to its horizon, and takes in the entries whose pages are
- * of the shard. Of any other frame: raises the node to its horizon. All or nothing.
- * Refused: WARM_TRUNCATED to WARM_BAD_ORDER; WARM_MEMORY. No limit is looked at: node_read_frame
- * has done so. */
-int node_receive_part(
-    node *handle, size_t shards, size_t shard, const uint8_t *frame, size_t length);
-
-/* Writes the digests of the shard's buckets to their places in the table, and leaves the others;
- * and the later of horizon and the node's own.
- * Refused: WARM_MEMORY. */
-int node_digests(node *handle, size_t shards, size_t shard, node_table *table, uint64_t *horizon);
-
-/* Writes the frame of these digests, as a replica of this number and horizon offers it, and its
- * length.
- * Refused: WARM_BAD_REPLICA; WARM_MEMORY; WARM_BUFFER_TOO_SMALL: length is then the room that it
- * needs. */
-int node_offer_frame(uint16_t replica, uint64_t horizon, const node_table *table, uint8_t *frame,
-    size_t room, size_t *length);
-
-/* Of a frame of digests: bit i if that of bucket i differs from the table's. Of any other
- * frame: 0.
- * Refused: WARM_TRUNCATED to WARM_BAD_ORDER; WARM_MEMORY. */
-int node_differing(const node_table *table, const uint8_t *frame, size_t length, uint64_t *buckets);
-
-/* Writes the frame by which a replica of this number and horizon requests these buckets (bit i:
- * bucket i), and its length.
- * Refused: WARM_BAD_REPLICA; WARM_MEMORY; WARM_BUFFER_TOO_SMALL: length is then the room that it
- * needs. */
-int node_want_frame(uint16_t replica, uint64_t horizon, uint64_t buckets, uint8_t *frame,
-    size_t room, size_t *length);
+    uint8_t *frame, size_t room, size_t *length, size_t *entries, bool *more, node_page *last);
 
 /* Whether node_forget_pages would forget these pages, or what it would be refused with. Nothing
  * changes. */
@@ -192,31 +129,80 @@ int node_may_forget(node *handle, uint16_t dev, uint64_t from);
 int node_may_replace(node *handle, uint16_t dev, const node_device *device);
 
 /*
- * Histories alone, which have no frame and no device. If there is a node_NAME, peer_NAME does
- * the same of a history alone.
+ * Visits. A call of a whole replica is a visit: it names the shard that it wants next, and is let
+ * in there. The shard of a page is its bucket (docs/FORMATS.md), modulo the number of shards.
+ * Whoever has the locks makes one loop:
+ *
+ *     while (visit_next(of, &number)) visit_enter(of, node of this shard);
+ *
+ * A handle has one visit after the other. Between two of them it is idle.
  */
 
-/* A handle of a history alone. All zeros is a closed one. It does not move while it is open, and
- * stays on its thread. */
-typedef struct peer {
+/* A handle of visits. All zeros is a closed one. It does not move while it is open, but may be used
+ * by another thread than before. */
+typedef struct visit {
     bool is_open;
     void *at;
-} peer;
+} visit;
 
-int peer_open(peer *handle, uint16_t replica);
-void peer_close(peer *handle);
-int peer_list(peer *handle, node_page *pages, size_t room, size_t *count);
-int peer_save(peer *handle, int fd);
-int peer_load(peer *handle, int fd, uint64_t length);
+/* Opens a closed handle of visits of this replica, in so many shards. Only this call and those that
+ * say so may be refused with WARM_MEMORY.
+ * Refused: WARM_ALREADY_OPEN; WARM_BAD_REPLICA; WARM_BAD_SHARDS; WARM_MEMORY. */
+int visit_open(visit *handle, uint16_t replica, size_t shards);
+void visit_close(visit *handle);
 
-/* Joins the history of a node to a history alone, at the later horizon of both. The node is as it
- * was. All or nothing.
- * Refused: WARM_CLOSED if one of them is closed; WARM_MEMORY. */
-int peer_gather(peer *into, node *from);
+/* Begin a visit, in place of the one before: to absorb references; to raise the horizon of each
+ * shard; to offer; to copy the histories of all shards and join the copies. */
+int visit_absorb(visit *handle, const node_reference *references, size_t count);
+int visit_raise(visit *handle, uint64_t time);
+int visit_offer(visit *handle);
+int visit_copy(visit *handle);
 
-/* Joins what a history alone has of pages of the shard to the history of the shard's node, at the
- * later horizon of both. The history alone is as it was. All or nothing.
- * Refused: WARM_CLOSED if one of them is closed; WARM_MEMORY. */
-int node_join_part(node *into, size_t shards, size_t shard, peer *from);
+/* What a message is refused by: times later than time, a horizon later than horizon, and entries
+ * with which a history that knows so many pages could know more than pages. */
+typedef struct node_limits {
+    uint64_t time, horizon;
+    size_t pages, known;
+} node_limits;
+
+/* Begins to receive the message of a frame. All shards take its horizon, and each the entries of
+ * its pages; its answers are to be handed out.
+ * Refused, and the visit before is kept: WARM_TRUNCATED to WARM_BAD_ORDER; WARM_LATE_HORIZON;
+ * WARM_LATE_STAMP; WARM_TOO_MANY_PAGES; WARM_MEMORY at any point. */
+int visit_receive(visit *handle, const node_limits *limits, const uint8_t *frame, size_t length);
+
+/* Reads a dump, and begins to join what each shard has of it. Refused, and the visit before is
+ * kept, as warm_load is. */
+int visit_load(visit *handle, int fd, uint64_t length);
+
+/* Returns whether the visit wants to be let into a shard, and writes which. It wants none if its
+ * errands are done, if a shard has refused one, or while a message waits to be handed out. */
+bool visit_next(visit *handle, size_t *number);
+
+/* Lets it into the node of that shard. */
+void visit_enter(visit *handle, node *in);
+
+/* Returns WARM_OK; or WARM_MEMORY if a shard has refused an errand. That is taken away: the visit
+ * goes on where it stopped, if it is let in again. */
+int visit_status(visit *handle);
+
+/* Writes the earliest horizon that a shard has, of a visit that raised them. */
+int visit_kept(visit *handle, uint64_t *horizon);
+
+/* Hands out what was offered, or the next message of the answers: writes its frame, and its length;
+ * length 0 if there is none. If it is refused, the message waits.
+ * Refused: WARM_MEMORY; WARM_BUFFER_TOO_SMALL: length is then the room that it needs. */
+int visit_message(visit *handle, uint8_t *frame, size_t room, size_t *length);
+
+/* List and save the copy, as warm_list and warm_save do.
+ * Refused: WARM_CLOSED, if the visit copies nothing; what these are refused with. */
+int visit_list(visit *handle, node_page *pages, size_t room, size_t *count);
+int visit_save(visit *handle, int fd);
+
+/* Exchanges the visits of two handles. */
+void visit_swap(visit *handle, visit *other);
+
+/* Leaves the handle idle: what the visit had is freed. */
+void visit_end(visit *handle);
 
 #endif

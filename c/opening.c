@@ -190,7 +190,15 @@ static bool take_buffers(opened *its) {
     return take_buffer(its, &its->buffer) && take_buffer(its, &its->copy);
 }
 
+/* Of the replica's shards: for the calls of the whole, and for answers that wait. */
+static bool open_visits(opened *its) {
+    return visit_open(&its->calls, its->of->number, its->count) == WARM_OK &&
+           visit_open(&its->answers, its->of->number, its->count) == WARM_OK;
+}
+
 static void free_opened(opened *its) {
+    visit_close(&its->calls);
+    visit_close(&its->answers);
     if (its->buffer != NULL) rattle_dealloc(its->buffer);
     if (its->copy != NULL) rattle_dealloc(its->copy);
     free(its->block);
@@ -208,7 +216,7 @@ static opened *new_opened(replica *of) {
     made->longest_wait = UINT64_MAX;
     made->block = block;
     made->passed = made->unwritten + bytes_of_devices(of);
-    if (take_buffers(made) && take_holds(made)) return made;
+    if (take_buffers(made) && open_visits(made) && take_holds(made)) return made;
     free_opened(made);
     return NULL;
 }

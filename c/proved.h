@@ -45,10 +45,6 @@ static inline node_slot slot_in(warm_slot slot) {
     return (node_slot){.generation = slot.generation, .index = slot.index};
 }
 
-static inline node_reference reference_in(const warm_reference *it) {
-    return (node_reference){.time = it->time, .no = it->no, .dev = it->dev, .replica = it->replica};
-}
-
 /* An array of pages that the proved part has written becomes the caller's, in its place. */
 static inline void pages_out(warm_page *pages, size_t count) {
     for (size_t at = 0; at < count; at++) {

@@ -475,16 +475,16 @@ void let_go_of_pins(opened *its) {
 
 /* A shard that is entered for a call on a slot, whose page the node has a pin of meanwhile, if
  * anybody has one. */
-typedef struct visit {
+typedef struct slot_call {
     shard *in;
     node_slot slot;
     writing *written; /* of the page, if it is being written */
     bool is_locked, is_pinned, changes;
-} visit;
+} slot_call;
 
 /* Looks whether the slot's page is being written: it is copied then, if the call changes it.
  * WARM_OK, or WARM_BUSY. */
-__attribute__((noinline)) static int look_for_write(const opened *its, visit *made) {
+__attribute__((noinline)) static int look_for_write(const opened *its, slot_call *made) {
     patience left = {0};
     int status;
     do {
@@ -496,12 +496,12 @@ __attribute__((noinline)) static int look_for_write(const opened *its, visit *ma
 
 /* Whether the handle is open and the shard there, or why not. Who is about to change the page waits
  * until it is copied, if that is about to be written. */
-static int enter_slot_to(warm *handle, warm_slot slot, visit *made, bool changes) {
+static int enter_slot_to(warm *handle, warm_slot slot, slot_call *made, bool changes) {
     opened *its = handle->at;
     if (its == NULL) return WARM_CLOSED;
     if (slot.shard >= its->count) return WARM_STALE_SLOT;
     shard *in = &its->shards[slot.shard];
-    *made = (visit){
+    *made = (slot_call){
         .in = in, .slot = slot_in(slot), .is_locked = enter(its, in), .changes = changes};
     int status = in->writes != NULL ? look_for_write(its, made) : WARM_OK;
     if (status != WARM_OK) {
@@ -514,15 +514,15 @@ static int enter_slot_to(warm *handle, warm_slot slot, visit *made, bool changes
     return WARM_OK;
 }
 
-static int enter_slot(warm *handle, warm_slot slot, visit *made) {
+static int enter_slot(warm *handle, warm_slot slot, slot_call *made) {
     return enter_slot_to(handle, slot, made, false);
 }
 
-static int enter_slot_to_write(warm *handle, warm_slot slot, visit *made) {
+static int enter_slot_to_write(warm *handle, warm_slot slot, slot_call *made) {
     return enter_slot_to(handle, slot, made, true);
 }
 
-static int leave_slot(const visit *made, int status) {
+static int leave_slot(const slot_call *made, int status) {
     if (made->changes && status == WARM_OK) note_change(made->written);
     if (made->is_pinned) node_unpin(&made->in->node, made->slot);
     pin_write(made->in, made->written);
@@ -548,14 +548,14 @@ int warm_read(warm *handle, warm_slot slot, size_t at, void *into, size_t length
     if (its == NULL) return WARM_CLOSED;
     const uint8_t *bytes = held_bytes(its, slot);
     if (bytes != NULL) return read_held(its, slot, bytes, at, into, length);
-    visit made;
+    slot_call made;
     int status = enter_slot(handle, slot, &made);
     if (status != WARM_OK) return status;
     return leave_slot(&made, node_read(&made.in->node, made.slot, at, into, length));
 }
 
 int warm_write(warm *handle, warm_slot slot, size_t at, const void *bytes, size_t length) {
-    visit made;
+    slot_call made;
     int status = enter_slot_to_write(handle, slot, &made);
     if (status != WARM_OK) return status;
     return leave_slot(&made, node_write(&made.in->node, made.slot, at, bytes, length));
@@ -569,14 +569,14 @@ int warm_bytes(warm *handle, warm_slot slot, const uint8_t **bytes) {
         *bytes = lent;
         return WARM_OK;
     }
-    visit made;
+    slot_call made;
     int status = enter_slot(handle, slot, &made);
     if (status != WARM_OK) return status;
     return leave_slot(&made, node_bytes(&made.in->node, made.slot, bytes));
 }
 
 int warm_bytes_mut(warm *handle, warm_slot slot, uint8_t **bytes) {
-    visit made;
+    slot_call made;
     int status = enter_slot_to_write(handle, slot, &made);
     if (status != WARM_OK) return status;
     return leave_slot(&made, node_bytes_mut(&made.in->node, made.slot, bytes));

@@ -72,15 +72,6 @@ typedef struct replica {
     shard shards[];
 } replica;
 
-/* What a frame is answered with, frame by frame. */
-typedef struct answers {
-    uint64_t buckets; /* bit i: entries of bucket i are still to be sent */
-    uint64_t wanted;  /* the buckets that are asked for after that; 0 if nothing is */
-    uint64_t horizon; /* of that request */
-    node_page after;  /* if has_after, the last page of the lowest bucket that was sent */
-    bool has_after;
-} answers;
-
 /* What a handle alone knows of a hold: the slot of its page, index and shard in one, and how often
  * it has pinned the page so. */
 typedef struct own_hold {
@@ -114,7 +105,8 @@ typedef struct opened {
     bool has_failed;
     node_failure failure; /* of a device, in a call of the handle, the last one; if has_failed */
     uint64_t failed;      /* how many were in that call, or were skipped */
-    answers waiting;
+    visit calls;   /* of the whole, one after the other; idle between two */
+    visit answers; /* to the message that was received last, as far as they wait */
     void *block;
     /* bit i: a portion has passed the page in frame i of its shard, which another call was writing;
      * 0 between portions. It is behind the devices' bits */

@@ -151,7 +151,7 @@ static void call_histories(warm *handle, size_t all, bool is_shared) {
     TAKES(all, warm_list(handle, &page, 1, &number));
     MUST(number == 1);
     TAKES(all, warm_save(handle, 1));
-    TAKES(all, warm_load(handle, 1, 2 * all));
+    TAKES(2 * all, warm_load(handle, 1, 2 * all)); /* all are raised first */
     TAKES(all, warm_history_length(handle, &number));
     MUST(number == 2 + 2 * all); /* each shard has its part of what was loaded */
     TAKES(0, warm_limit(handle, 9));
@@ -160,12 +160,13 @@ static void call_histories(warm *handle, size_t all, bool is_shared) {
 }
 
 static void call_messages(warm *handle, size_t all, bool is_shared) {
-    const uint8_t entries[10] = {NODE_ENTRIES, 1, 0, 0, 2}, request[10] = {NODE_REQUEST, 1, 1, 1};
+    const uint8_t entries[10] = {FAKE_ENTRIES, 1, 0, 0, 2}, request[10] = {FAKE_REQUEST, 1, 1, 1};
+    const size_t with_entries = all > 2 ? 2 : 1;
     uint8_t frame[66];
     size_t number;
     warm_sending sending = {.bucket = 5};
-    TAKES(all, warm_receive(handle, entries, sizeof entries));
-    TAKES(all, warm_receive(handle, request, sizeof request));
+    TAKES(all + with_entries, warm_receive(handle, entries, sizeof entries));
+    TAKES(all + 1, warm_receive(handle, request, sizeof request)); /* the first answer is made */
     OK(warm_next_answer(handle, frame, sizeof frame, &number));
     TAKES(all, warm_offer(handle, frame, sizeof frame, &number));
     TAKES(2 * all, warm_receive(handle, frame, number));
@@ -301,7 +302,7 @@ static void *work(void *of) {
     warm_counters counters;
     for (uint64_t round = 0; round < ROUNDS; round++) {
         const warm_reference seen[] = {{.no = round, .replica = 1}, {.no = own, .replica = 1}};
-        uint8_t frame[66] = {NODE_DIGESTS};
+        uint8_t frame[66] = {FAKE_DIGESTS};
         size_t length;
         warm_slot slot;
         int status = warm_pin(handle, (warm_page){.no = (own + round) % FAKE_PAGES}, &slot);

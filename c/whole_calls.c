@@ -1,112 +1,61 @@
 /*
- * whole_calls.c: the calls of include/warm.h on a whole replica, shard by shard: its history, its
- * frames, its devices and what it has counted. Each makes calls of the proved part (nodes.h), in
- * one shard at a time. Nothing here is proved; c/check tests it.
+ * whole_calls.c: the calls of include/warm.h on a whole replica: its history, its messages, its
+ * devices and what it has counted. What a call of the history does, and in which shard, a visit
+ * decides, which is proved (nodes.h): here it is let into one shard after the other. Nothing here
+ * is proved; c/check tests it.
  */
 #define _POSIX_C_SOURCE 200809L /* pthread_mutex_t */
-#include "fd_calls.h"
 #include "shards.h"
-#include "sync_once.h"
 
-#include <errno.h>
-#include <stdlib.h>
-#include <string.h>
+/* Lets a visit into the shards that it wants, one after the other, and returns what came of it. */
+static int go_through(opened *its, visit *of) {
+    size_t number;
+    while (visit_next(of, &number)) {
+        shard *in = &its->shards[number];
+        bool is_locked = enter(its, in);
+        visit_enter(of, &in->node);
+        leave(in, is_locked);
+    }
+    return visit_status(of);
+}
 
-static unsigned lowest(uint64_t set) { return (unsigned)__builtin_ctzll(set); }
+/* Makes the call whose visit was begun, unless that was refused. */
+static int visit_shards(opened *its, int begun) {
+    return begun == WARM_OK ? go_through(its, &its->calls) : begun;
+}
 
-static uint64_t without_lowest(uint64_t set) { return set & (set - 1); }
+/* Ends it. */
+static int end_visit(opened *its, int status) {
+    visit_end(&its->calls);
+    return status;
+}
 
 /* ---- history ---- */
 
-/* How many references are copied without an allocation. */
-enum { BATCH_ROOM = 256 };
-
-static bool have_replicas(const warm_reference *references, size_t count) {
-    for (size_t at = 0; at < count; at++) {
-        if (references[at].replica < 1 || references[at].replica > 64) return false;
-    }
-    return true;
-}
-
-static size_t shard_of_reference(const opened *its, const warm_reference *it) {
-    return (it->dev + it->no) & (its->count - 1);
-}
-
-/* How many references are of each shard. */
-static void count_each(const opened *its, const warm_reference *references, size_t count,
-    size_t each[WARM_MAX_SHARDS]) {
-    memset(each, 0, its->count * sizeof *each);
-    for (size_t at = 0; at < count; at++) each[shard_of_reference(its, &references[at])]++;
-}
-
-/* Copies the references, as the proved part has them, so that those of a shard follow each other,
- * those of shard 0 first. */
-static void group(const opened *its, const warm_reference *references, size_t count,
-    const size_t each[WARM_MAX_SHARDS], node_reference *grouped) {
-    size_t next[WARM_MAX_SHARDS], before = 0;
-    for (size_t number = 0; number < its->count; number++) {
-        next[number] = before;
-        before += each[number];
-    }
-    for (size_t at = 0; at < count; at++) {
-        const warm_reference *it = &references[at];
-        grouped[next[shard_of_reference(its, it)]++] = reference_in(it);
-    }
-}
-
-static int absorb_in(opened *its, shard *in, const node_reference *references, size_t count) {
+/* References of one shard, that of the first of them, are a call of its node, as a pin is. */
+static int absorb_in_one(opened *its, const node_reference *batch, size_t count) {
+    shard *in = shard_of(its, (node_page){.no = batch->no, .dev = batch->dev});
     bool is_locked = enter(its, in);
-    int status = node_absorb(&in->node, references, count);
+    int status = node_absorb(&in->node, batch, count);
     leave(in, is_locked);
     return status;
 }
 
-/* Each shard that has references takes its own in. */
-static int absorb_grouped(
-    opened *its, const node_reference *grouped, const size_t each[WARM_MAX_SHARDS]) {
-    int status = WARM_OK;
-    for (size_t number = 0; number < its->count && status == WARM_OK; number++) {
-        if (each[number] > 0) status = absorb_in(its, &its->shards[number], grouped, each[number]);
-        grouped += each[number];
-    }
-    return status;
-}
-
+/* A reference of the caller's is one of the proved part (layouts.h). */
 int warm_absorb(warm *handle, const warm_reference *references, size_t count) {
     opened *its = handle->at;
-    size_t each[WARM_MAX_SHARDS];
-    node_reference room[BATCH_ROOM], *grouped = room;
+    const node_reference *batch = (const node_reference *)references;
     if (its == NULL) return WARM_CLOSED;
-    if (!have_replicas(references, count)) return WARM_BAD_REPLICA;
-    if (count > SIZE_MAX / sizeof *grouped) return WARM_MEMORY;
-    if (count > BATCH_ROOM) grouped = malloc(count * sizeof *grouped);
-    if (grouped == NULL) return WARM_MEMORY;
-    count_each(its, references, count, each);
-    group(its, references, count, each, grouped);
-    int status = absorb_grouped(its, grouped, each);
-    if (grouped != room) free(grouped);
-    return status;
-}
-
-/* Raises all shards to a time, and writes the earliest horizon that one has then: what is before it
- * is gone in all of them. */
-static void raise_all(opened *its, uint64_t time, uint64_t *horizon) {
-    *horizon = UINT64_MAX;
-    for (size_t number = 0; number < its->count; number++) {
-        uint64_t kept = time;
-        shard *in = &its->shards[number];
-        bool is_locked = enter(its, in);
-        node_raise(&in->node, time, &kept);
-        leave(in, is_locked);
-        if (kept < *horizon) *horizon = kept;
-    }
+    if (count == 1 || (count > 0 && its->count == 1)) return absorb_in_one(its, batch, count);
+    return end_visit(its, visit_shards(its, visit_absorb(&its->calls, batch, count)));
 }
 
 int warm_raise(warm *handle, uint64_t time, uint64_t *horizon) {
     opened *its = handle->at;
     if (its == NULL) return WARM_CLOSED;
-    raise_all(its, time, horizon);
-    return WARM_OK;
+    int status = visit_shards(its, visit_raise(&its->calls, time));
+    if (status == WARM_OK) status = visit_kept(&its->calls, horizon);
+    return end_visit(its, status);
 }
 
 int warm_history_length(warm *handle, size_t *length) {
@@ -125,18 +74,6 @@ int warm_history_length(warm *handle, size_t *length) {
     return WARM_OK;
 }
 
-/* Opens a history, and joins those of all shards to it. The caller closes it in any case. */
-static int gather(opened *its, peer *all) {
-    int status = peer_open(all, its->of->number);
-    for (size_t number = 0; number < its->count && status == WARM_OK; number++) {
-        shard *in = &its->shards[number];
-        bool is_locked = enter(its, in);
-        status = peer_gather(all, &in->node);
-        leave(in, is_locked);
-    }
-    return status;
-}
-
 static int list_one(opened *its, shard *in, node_page *pages, size_t room, size_t *count) {
     bool is_locked = enter(its, in);
     int status = node_list(&in->node, pages, room, count);
@@ -145,11 +82,9 @@ static int list_one(opened *its, shard *in, node_page *pages, size_t room, size_
 }
 
 static int list_all(opened *its, node_page *pages, size_t room, size_t *count) {
-    peer all = {0};
-    int status = gather(its, &all);
-    if (status == WARM_OK) status = peer_list(&all, pages, room, count);
-    peer_close(&all);
-    return status;
+    int status = visit_shards(its, visit_copy(&its->calls));
+    if (status == WARM_OK) status = visit_list(&its->calls, pages, room, count);
+    return end_visit(its, status);
 }
 
 /* A page of the caller's is as large as one of the proved part, which writes into its place. */
@@ -171,12 +106,10 @@ static bool has_one_alone(const opened *its) {
 
 /* Writes a dump to a descriptor, or to a device that has a number. */
 static int save_to(opened *its, int number) {
-    peer all = {0};
     if (has_one_alone(its)) return node_save(&its->shards[0].node, number);
-    int status = gather(its, &all);
-    if (status == WARM_OK) status = peer_save(&all, number);
-    peer_close(&all);
-    return status;
+    int status = visit_shards(its, visit_copy(&its->calls));
+    if (status == WARM_OK) status = visit_save(&its->calls, number);
+    return end_visit(its, status);
 }
 
 int warm_save(warm *handle, int fd) {
@@ -195,26 +128,9 @@ int warm_save_to(warm *handle, const warm_device *file) {
     return status;
 }
 
-/* Each shard joins what a history has of its pages, all of it or nothing. */
-static int join_parts(opened *its, peer *all) {
-    int status = WARM_OK;
-    for (size_t number = 0; number < its->count && status == WARM_OK; number++) {
-        shard *in = &its->shards[number];
-        bool is_locked = enter(its, in);
-        status = node_join_part(&in->node, its->count, number, all);
-        leave(in, is_locked);
-    }
-    return status;
-}
-
 static int load_from(opened *its, int number, uint64_t length) {
-    peer all = {0};
     if (has_one_alone(its)) return node_load(&its->shards[0].node, number, length);
-    int status = peer_open(&all, its->of->number);
-    if (status == WARM_OK) status = peer_load(&all, number, length);
-    if (status == WARM_OK) status = join_parts(its, &all);
-    peer_close(&all);
-    return status;
+    return end_visit(its, visit_shards(its, visit_load(&its->calls, number, length)));
 }
 
 int warm_load(warm *handle, int fd, uint64_t length) {
@@ -234,27 +150,12 @@ int warm_load_from(warm *handle, const warm_device *file, uint64_t length) {
 
 /* ---- messages ---- */
 
-/* The digests of all buckets, of each by its shard, and the latest horizon of a shard. */
-static int gather_digests(opened *its, node_table *table, uint64_t *horizon) {
-    int status = WARM_OK;
-    *horizon = 0;
-    for (size_t number = 0; number < its->count && status == WARM_OK; number++) {
-        shard *in = &its->shards[number];
-        bool is_locked = enter(its, in);
-        status = node_digests(&in->node, its->count, number, table, horizon);
-        leave(in, is_locked);
-    }
-    return status;
-}
-
 int warm_offer(warm *handle, void *message, size_t room, size_t *length) {
     opened *its = handle->at;
-    node_table table = {0};
-    uint64_t horizon;
     if (its == NULL) return WARM_CLOSED;
-    int status = gather_digests(its, &table, &horizon);
-    if (status != WARM_OK) return status;
-    return node_offer_frame(its->of->number, horizon, &table, message, room, length);
+    int status = visit_shards(its, visit_offer(&its->calls));
+    if (status == WARM_OK) status = visit_message(&its->calls, message, room, length);
+    return end_visit(its, status);
 }
 
 /* A message without entries leaves the place as it was: the page of the last entry is then as it
@@ -268,7 +169,7 @@ int warm_send(warm *handle, warm_sending *sending, void *message, size_t room, s
     shard *in = &its->shards[sending->bucket % its->count];
     bool is_locked = enter(its, in);
     int status = node_send_since(&in->node, sending->bucket, sending->since, sending->has_after,
-        after, true, message, room, length, &entries, &more, &last);
+        after, message, room, length, &entries, &more, &last);
     leave(in, is_locked);
     if (status != WARM_OK) return status;
     if (entries > 0) sending->has_after = true;
@@ -292,112 +193,30 @@ int warm_limit_history(warm *handle, uint64_t horizon, size_t pages) {
     return WARM_OK;
 }
 
-/* What a message is, which keeps the limits of its times; or why it is refused. */
-static int read_message(
-    const opened *its, const uint8_t *message, size_t length, node_frame *what) {
-    uint64_t limit = atomic_load(&its->of->limit);
-    uint64_t horizon_limit = atomic_load(&its->of->horizon_limit);
-    return node_read_frame(its->count, limit, horizon_limit, message, length, what);
-}
-
-/* Whether the history has room for this many entries, each of which may be of a new page. */
-static int keeps_pages(warm *handle, size_t entries) {
-    size_t known, limit = atomic_load(&((opened *)handle->at)->of->page_limit);
-    if (limit == SIZE_MAX || entries == 0) return WARM_OK;
-    warm_history_length(handle, &known);
-    return known <= limit && entries <= limit - known ? WARM_OK : WARM_TOO_MANY_PAGES;
-}
-
-/* Each shard takes the horizon of a message of entries, and those of its pages. */
-static int take_entries(
-    opened *its, const node_frame *what, const uint8_t *message, size_t length) {
-    int status = WARM_OK;
-    for (size_t number = 0; number < its->count && status == WARM_OK; number++) {
-        uint64_t horizon;
-        bool has_entries = (what->shards >> number & 1) != 0;
-        shard *in = &its->shards[number];
-        bool is_locked = enter(its, in);
-        status = has_entries ? node_receive_part(&in->node, its->count, number, message, length)
-                             : node_raise(&in->node, what->horizon, &horizon);
-        leave(in, is_locked);
-    }
-    return status;
-}
-
-/* What a message of digests is answered with: the entries of the buckets that differ, and a request
- * for those of the other. */
-static int compare(opened *its, const uint8_t *message, size_t length, answers *given) {
-    node_table table = {0};
-    int status = gather_digests(its, &table, &given->horizon);
-    if (status == WARM_OK) status = node_differing(&table, message, length, &given->buckets);
-    given->wanted = given->buckets;
-    return status;
-}
-
-/* Takes in a message that may be taken in, and says what it is answered with. */
-static int take_in(
-    opened *its, const node_frame *what, const uint8_t *message, size_t length, answers *given) {
-    uint64_t horizon;
-    *given = (answers){0};
-    if (what->kind == NODE_ENTRIES) return take_entries(its, what, message, length);
-    raise_all(its, what->horizon, &horizon);
-    if (what->kind == NODE_DIGESTS) return compare(its, message, length, given);
-    given->buckets = what->buckets;
-    return WARM_OK;
+/* The limits of a message. What the history knows is counted if there is one of pages. */
+static node_limits limits_of(warm *handle) {
+    const replica *of = ((opened *)handle->at)->of;
+    node_limits limits = {.time = atomic_load(&of->limit),
+        .horizon = atomic_load(&of->horizon_limit),
+        .pages = atomic_load(&of->page_limit)};
+    if (limits.pages < SIZE_MAX) warm_history_length(handle, &limits.known);
+    return limits;
 }
 
 int warm_receive(warm *handle, const void *message, size_t length) {
     opened *its = handle->at;
-    node_frame what;
-    answers given;
     if (its == NULL) return WARM_CLOSED;
-    int status = read_message(its, message, length, &what);
-    if (status == WARM_OK) status = keeps_pages(handle, what.entries);
-    if (status == WARM_OK) status = take_in(its, &what, message, length, &given);
-    if (status == WARM_OK) its->waiting = given;
-    return status;
-}
-
-/* Goes on behind what was sent of the lowest bucket of the answers. */
-static void go_on(answers *waiting, bool more, node_page last) {
-    waiting->has_after = more;
-    waiting->after = last;
-    if (!more) waiting->buckets = without_lowest(waiting->buckets);
-}
-
-/* Writes the message of the next entries of the lowest bucket, its length, and how many they are. A
- * bucket without any is passed over: no message and no length is written then. */
-static int next_entries(
-    opened *its, uint8_t *message, size_t room, size_t *length, size_t *entries) {
-    answers *waiting = &its->waiting;
-    uint8_t bucket = (uint8_t)lowest(waiting->buckets);
-    node_page last = waiting->after;
-    bool more = false;
-    shard *in = &its->shards[bucket % its->count];
-    bool is_locked = enter(its, in);
-    int status = node_send_since(&in->node, bucket, 0, waiting->has_after, waiting->after, false,
-        message, room, length, entries, &more, &last);
-    leave(in, is_locked);
-    if (status == WARM_OK) go_on(waiting, more, last);
-    return status;
+    node_limits limits = limits_of(handle);
+    int status = visit_shards(its, visit_receive(&its->calls, &limits, message, length));
+    if (status == WARM_OK) visit_swap(&its->calls, &its->answers);
+    return end_visit(its, status);
 }
 
 int warm_next_answer(warm *handle, void *message, size_t room, size_t *length) {
     opened *its = handle->at;
     if (its == NULL) return WARM_CLOSED;
-    while (its->waiting.buckets != 0) {
-        size_t entries = 0;
-        int status = next_entries(its, message, room, length, &entries);
-        if (status != WARM_OK || entries > 0) return status;
-    }
-    if (its->waiting.wanted == 0) {
-        *length = 0;
-        return WARM_OK;
-    }
-    int status = node_want_frame(
-        its->of->number, its->waiting.horizon, its->waiting.wanted, message, room, length);
-    if (status == WARM_OK) its->waiting.wanted = 0;
-    return status;
+    int status = go_through(its, &its->answers);
+    return status == WARM_OK ? visit_message(&its->answers, message, room, length) : status;
 }
 
 /* ---- counts ---- */

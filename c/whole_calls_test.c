@@ -17,11 +17,11 @@ static void test_batches(void) {
     MUST(known(&handle) == 0); /* none, though it is the last */
     seen[127].replica = 1;
     size_t before = 0;
-    for (size_t grants = 0; grants < 4; grants++) { /* the first shards have theirs */
+    for (size_t grants = 1; grants < 5; grants++) { /* the visit has one, then the first shards */
         granted = grants;
         MUST(warm_absorb(&handle, seen, 128) == WARM_MEMORY);
         granted = SIZE_MAX;
-        MUST(known(&handle) == before + 32 * grants);
+        MUST(known(&handle) == before + 32 * (grants - 1));
         before = known(&handle);
     }
     OK(warm_absorb(&handle, seen, 128));
@@ -29,10 +29,9 @@ static void test_batches(void) {
     OK(warm_abandon(&handle));
 }
 
-/* More references than are put in order on the stack: all of them, or none if the copy finds no
- * memory; one shard's as they are. */
+/* Each shard has its own of many references; none has any, where the visit finds no memory. */
 static void test_great_batches(void) {
-    enum { MANY = BATCH_ROOM + 44 };
+    enum { MANY = 300 };
     static warm_reference seen[MANY];
     warm handle = {0};
     for (uint64_t at = 0; at < MANY; at++)
@@ -64,7 +63,7 @@ static void test_great_batches(void) {
 
 /* A horizon is within both of its limits. */
 static void test_limits_of_horizons(void) {
-    const uint8_t frames[][66] = {{NODE_ENTRIES, 3, 0, 0, 1}, {NODE_DIGESTS, 3}, {NODE_REQUEST, 3}};
+    const uint8_t frames[][66] = {{FAKE_ENTRIES, 3, 0, 0, 1}, {FAKE_DIGESTS, 3}, {FAKE_REQUEST, 3}};
     warm handle = {0};
     MUST(warm_limit_history(&handle, 1, 1) == WARM_CLOSED);
     open_shards(&handle, 4);
@@ -86,7 +85,7 @@ static void test_limits_of_horizons(void) {
  * then. */
 static void receive_by(size_t limit, const uint8_t frame[66], int expected, size_t then) {
     const warm_reference seen[] = {{.no = 1, .replica = 1}, {.no = 2, .replica = 1}};
-    const uint8_t request[10] = {NODE_REQUEST, 3, 1, 1};
+    const uint8_t request[10] = {FAKE_REQUEST, 3, 1, 1};
     uint8_t answer[FAKE_FULL];
     warm handle = {0};
     size_t length = 0;
@@ -105,10 +104,10 @@ static void receive_by(size_t limit, const uint8_t frame[66], int expected, size
 
 /* Each entry counts as a new page, whichever it is. Frames without entries have any limit. */
 static void test_limits_of_pages(void) {
-    const uint8_t none[66] = {NODE_ENTRIES, 3}, one[66] = {NODE_ENTRIES, 3, 0, 0, 1},
-                  many[66] = {NODE_ENTRIES, 3, 0, 300 >> 8, 300 & 255},
-                  digests[66] = {NODE_DIGESTS, 3, 1, 1, 1},
-                  request[66] = {NODE_REQUEST, 3, 1, 1, 1};
+    const uint8_t none[66] = {FAKE_ENTRIES, 3}, one[66] = {FAKE_ENTRIES, 3, 0, 0, 1},
+                  many[66] = {FAKE_ENTRIES, 3, 0, 300 >> 8, 300 & 255},
+                  digests[66] = {FAKE_DIGESTS, 3, 1, 1, 1},
+                  request[66] = {FAKE_REQUEST, 3, 1, 1, 1};
     for (size_t limit = 0; limit < 4; limit++) {
         receive_by(limit, none, WARM_OK, 2);
         receive_by(limit, digests, WARM_OK, 2);
@@ -201,7 +200,7 @@ static void test_sending(void) {
 
 /* Each allocation of a call on the whole fails in turn, and nothing is left of it. */
 static void test_memory(void) {
-    const uint8_t entries[10] = {NODE_ENTRIES, 1, 0, 0, 2};
+    const uint8_t entries[10] = {FAKE_ENTRIES, 1, 0, 0, 2};
     uint8_t frame[66];
     size_t length = 77;
     bool found;
@@ -246,7 +245,7 @@ static void test_loads_in_parts(void) {
 
 /* Frames that are refused, at once or by each allocation. The answers that wait still do. */
 static void refuse_frames(warm *handle) {
-    const uint8_t digests[66] = {NODE_DIGESTS, 3};
+    const uint8_t digests[66] = {FAKE_DIGESTS, 3};
     MUST(warm_receive(handle, digests, 9) == WARM_TRUNCATED);
     for (size_t grants = 0; grants < 4; grants++) {
         granted = grants;
@@ -265,7 +264,7 @@ static void take_answers(warm *handle, uint8_t frame[66]) {
             MUST(warm_next_answer(handle, frame, FAKE_FULL - 1, &length) == WARM_BUFFER_TOO_SMALL &&
                  length == FAKE_FULL && frame[0] == 'x');
             OK(warm_next_answer(handle, frame, FAKE_FULL, &length));
-            MUST(length == FAKE_FULL && frame[0] == NODE_ENTRIES && frame[1] == 3 &&
+            MUST(length == FAKE_FULL && frame[0] == FAKE_ENTRIES && frame[1] == 3 &&
                  frame[2] == bucket && frame[FAKE_FULL] == 'x');
         }
     }
@@ -273,7 +272,7 @@ static void take_answers(warm *handle, uint8_t frame[66]) {
     MUST(warm_next_answer(handle, frame, 9, &length) == WARM_BUFFER_TOO_SMALL && length == 10 &&
          frame[0] == 'x');
     OK(warm_next_answer(handle, frame, 10, &length));
-    MUST(length == 10 && frame[0] == NODE_REQUEST && frame[1] == 3 && frame[2] == 1 &&
+    MUST(length == 10 && frame[0] == FAKE_REQUEST && frame[1] == 3 && frame[2] == 1 &&
          frame[9] == 1);
     OK(warm_next_answer(handle, frame + 10, 10, &none));
     MUST(none == 0);
@@ -283,7 +282,7 @@ static void take_answers(warm *handle, uint8_t frame[66]) {
  * nothing has no frame, and leaves no trace. */
 static void test_answers(void) {
     const warm_reference seen = {.no = 1, .replica = 1};
-    uint8_t frame[66] = {NODE_DIGESTS, 3};
+    uint8_t frame[66] = {FAKE_DIGESTS, 3};
     size_t length;
     warm handle = {0};
     open_shards(&handle, 2);
@@ -302,15 +301,15 @@ static void test_answers(void) {
     OK(warm_next_answer(&handle, frame, sizeof frame, &length));
     /* no request follows an answer to one */
     MUST(length == 0 && frame[0] == 'x' && frame[22] == 'x');
-    OK(warm_receive(&handle, (uint8_t[10]){NODE_REQUEST, 3, 1, 0, 1, 0, 1}, 10));
+    OK(warm_receive(&handle, (uint8_t[10]){FAKE_REQUEST, 3, 1, 0, 1, 0, 1}, 10));
     OK(warm_next_answer(&handle, frame, 0, &length)); /* none of these buckets has anything */
     MUST(length == 0 && frame[0] == 'x');
-    OK(warm_receive(&handle, (uint8_t[10]){NODE_REQUEST, 3, 1, 1}, 10));
-    OK(warm_receive(&handle, (uint8_t[10]){NODE_ENTRIES, 3}, 10)); /* which is not answered */
+    OK(warm_receive(&handle, (uint8_t[10]){FAKE_REQUEST, 3, 1, 1}, 10));
+    OK(warm_receive(&handle, (uint8_t[10]){FAKE_ENTRIES, 3}, 10)); /* which is not answered */
     OK(warm_next_answer(&handle, frame, sizeof frame, &length));
     MUST(length == 0);
     OK(warm_limit(&handle, 2));
-    frame[0] = NODE_REQUEST;
+    frame[0] = FAKE_REQUEST;
     frame[1] = 3;
     MUST(warm_receive(&handle, frame, 10) == WARM_LATE_HORIZON &&
          warm_receive(&handle, frame, 9) == WARM_TRUNCATED);
@@ -441,20 +440,22 @@ static void test_failures(void) {
 /* One shard has a later horizon than the others: what is offered has it, and what is forgotten in
  * all is older. */
 static void test_horizons(void) {
-    const uint8_t request[10] = {NODE_REQUEST, 8};
+    const uint8_t request[10] = {FAKE_REQUEST, 8};
     uint8_t frame[66];
     warm handle = {0};
     uint64_t horizon;
     size_t length;
     open_shards(&handle, 4);
+    granted = 0; /* it takes no memory */
     OK(warm_raise(&handle, 7, &horizon));
+    granted = SIZE_MAX;
     MUST(horizon == 7);
     OK(warm_raise(&handle, 3, &horizon));
     MUST(horizon == 7);
-    OK(node_raise(&((opened *)handle.at)->shards[1].node, 9, &horizon));
+    ((fake *)((opened *)handle.at)->shards[1].node.at)->horizon = 9;
     OK(warm_raise(&handle, 3, &horizon));
     MUST(horizon == 7);
-    OK(node_raise(&((opened *)handle.at)->shards[3].node, 9, &horizon)); /* the last one */
+    ((fake *)((opened *)handle.at)->shards[3].node.at)->horizon = 9; /* the last one */
     OK(warm_raise(&handle, 3, &horizon));
     MUST(horizon == 7);
     OK(warm_offer(&handle, frame, sizeof frame, &length));

@@ -11,6 +11,7 @@ mod frames;
 mod gossip;
 mod history;
 mod kit;
+mod maps;
 mod peer;
 mod pool;
 mod random;

@@ -2,14 +2,13 @@
 use Rattle.std.proofs.Common.{◌≡◌, ◌↔◌, ℕ, Option, Some, None, sym, subst}
 use Rattle.std.specs.Prelude.{ℤ, pos}
 use Rattle.warm_c.specs.declared.open_node.OpenNode.{OpenNode}
-use Rattle.warm_c.specs.declared.open_peer.OpenPeer.{OpenPeer}
+use Rattle.warm_c.specs.declared.open_visit.OpenVisit.{OpenVisit}
 use Rattle.warm_c_base.specs.declared.status.Refusal.{Refusal}
 use Rattle.warm_c_base.specs.Statuses.{code_of, status_of}
 use Rattle.warm_c.specs.Calls.{Ending}
 use Rattle.warm_c_base.specs.Values.{IsBool}
 use Rattle.warm_c.specs.Handles.{OpenRequest, OnHandle, OpenRefused, Opens}
-use Rattle.warm_c.specs.PartCalls.{OnTwoHandles}
-use Rattle.warm_c.specs.Peers.{OpensPeer, PeerRefused}
+use Rattle.warm_c.specs.Visits.{OpensVisits, VisitsRefused}
 
 -- an open handle, which holds something before and after
 pub called : {A : Type 0} (goes : A → Ending → A → Type 0) (before after : Option A) (status : ℤ)
@@ -26,22 +25,12 @@ pub open_refused : (a : OpenRequest) (before after : Option OpenNode) (status : 
 open_refused a before after status why was is said for =
     subst (λ (o : Option OpenNode). Opens a o status after) (sym was) (subst (λ (o : Option OpenNode). Opens a None status o) (sym is) (why, said, for))
 
--- a closed one of a history alone, of which none was made
-pub peer_refused : (replica : ℕ) (before after : Option OpenPeer) (status : ℤ) (why : Refusal)
-    → before ≡ None → after ≡ None → status ≡ pos (code_of why) → PeerRefused replica why
-    → OpensPeer replica before status after
-peer_refused replica before after status why was is said for =
-    subst (λ (o : Option OpenPeer). OpensPeer replica o status after) (sym was) (subst (λ (o : Option OpenPeer). OpensPeer replica None status o) (sym is) (why, said, for))
-
--- two open handles, of which the first holds something before and after, and the second the same
-pub both_called : {A B : Type 0} (goes : B → A → Ending → A → Type 0) (before after : Option A)
-    (from from' : Option B) (status : ℤ) (old new : A) (other : B) (ending : Ending)
-    → before ≡ Some old → after ≡ Some new → from ≡ Some other → from' ≡ Some other
-    → goes other old ending new → status ≡ status_of ending
-    → OnTwoHandles goes before from status after from'
-both_called {A} {B} goes before after from from' status old new other ending was is held still went said =
-    subst (λ (o : Option A). OnTwoHandles goes o from status after from') (sym was) (subst (λ (o : Option A). OnTwoHandles goes (Some old) from status o from') (sym is)
-    (subst (λ (o : Option B). OnTwoHandles goes (Some old) o status (Some new) from') (sym held) (ending, went, said, still)))
+-- a closed one of visits, of which none was opened
+pub visits_refused : (replica shards : ℕ) (before after : Option OpenVisit) (status : ℤ)
+    (why : Refusal) → before ≡ None → after ≡ None → status ≡ pos (code_of why)
+    → VisitsRefused replica shards why → OpensVisits replica shards before status after
+visits_refused replica shards before after status why was is said for =
+    subst (λ (o : Option OpenVisit). OpensVisits replica shards o status after) (sym was) (subst (λ (o : Option OpenVisit). OpensVisits replica shards None status o) (sym is) (why, said, for))
 
 -- a bool of C that says whether P holds also says whether Q does, if each follows from the other
 pub bool_same : {P Q : Type 0} (n : ℕ) → IsBool n P → P ↔ Q → IsBool n Q

@@ -1,6 +1,7 @@
 -- What each call does to what an open handle holds, and what it writes.
 use Rattle.std.specs.Prelude.{ℕ, ◌<◌, ◌≡◌, List, map, length, Option, IfSome, Result, Ok, Err}
 use Rattle.std.specs.Prelude.{Contains}
+use Rattle.std.specs.List.{AllByRecursion}
 use Rattle.warm_stamps.specs.Replicas.{IsReplica}
 use Rattle.warm_stamps.specs.declared.PageId.{PageId}
 use Rattle.warm_history.specs.Histories.{HistoryView, IsHistory, entries_of}
@@ -11,10 +12,10 @@ use Rattle.warm_frames.specs.Encoding.{encoding}
 use Rattle.warm_pool.specs.Unchanged.{KeepsBytes}
 use Rattle.warm_pool.specs.View.{view_of, IsResident}
 use Rattle.warm_gossip.specs.declared.call.Call.{Call}
-use Rattle.warm_gossip.specs.declared.call.Call.TheVariants.{Absorb, Horizon, Pin, Unpin}
+use Rattle.warm_gossip.specs.declared.call.Call.TheVariants.{Absorb, Pin, Unpin}
 use Rattle.warm_gossip.specs.declared.call.Call.TheVariants.{Read, Write, Victim, WarmList, WarmStep}
 use Rattle.warm_gossip.specs.declared.call.Reply.{Reply}
-use Rattle.warm_gossip.specs.declared.call.Reply.TheVariants.{Done, Kept, Pinned, Bytes}
+use Rattle.warm_gossip.specs.declared.call.Reply.TheVariants.{Done, Pinned, Bytes}
 use Rattle.warm_gossip.specs.declared.call.Reply.TheVariants.{Page, Pages, Loaded, Refused}
 use Rattle.warm_gossip.specs.declared.fault.NodeFault.TheVariants.{Memory}
 use Rattle.warm_gossip.specs.Clauses.{DevicesAfter, Goes, Joins, SameView}
@@ -60,10 +61,14 @@ RefusedByNode call old why new = ⊥
 abbrev pub HasBadReplica : List WarmReference → Type 0
 HasBadReplica batch = (r : WarmReference) × Contains batch r × (IsReplica r.replica → ⊥)
 
--- why the references are not those of a node
+-- each reference is of a replica
+abbrev pub AreOfReplicas : List WarmReference → Type 0
+AreOfReplicas batch = AllByRecursion (λ r. IsReplica r.replica) batch
+
+-- why the references are not those of a node; an allocation may fail
 abbrev pub BatchRefused : List WarmReference → Refusal → Type 0
-BatchRefused batch (Node Memory) = Unit {0}
 BatchRefused batch BadReplica = HasBadReplica batch
+BatchRefused batch (Node Memory) = AreOfReplicas batch
 BatchRefused batch why = ⊥
 
 -- the node absorbs the references, or says why not
@@ -71,10 +76,6 @@ abbrev pub Absorbs : List WarmReference → OpenNode → Ending → OpenNode →
 Absorbs batch old (Ok given) new = Replies (Absorb (map reference_of batch)) old Done new
 Absorbs batch old (Err BadReplica) new = HasBadReplica batch × (new ≡ old)
 Absorbs batch old (Err why) new = RefusedByNode (Absorb (map reference_of batch)) old why new
-
--- the horizon that is written is the one that the node then has
-abbrev pub Raises : ℕ → ℕ → OpenNode → OpenNode → Type 0
-Raises time horizon old new = Replies (Horizon time) old (Kept horizon) new
 
 -- the hottest pages stand at the start of the buffer, and their number is given
 abbrev pub Lists : List WarmPage → ℕ → List WarmPage → ℕ → OpenNode → Ending → OpenNode → Type 0

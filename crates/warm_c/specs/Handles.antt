@@ -23,7 +23,7 @@ OnHandle goes (Some old) status (Some new) = (ending : Ending) × goes old endin
 OnHandle goes (Some old) status None = ⊥
 
 -- a call that an open handle does not refuse
-abbrev pub Surely : (OpenNode → OpenNode → Type 0) → OpenNode → Ending → OpenNode → Type 0
+abbrev pub Surely : {A : Type 0} → (A → A → Type 0) → A → Ending → A → Type 0
 Surely goes old (Ok given) new = goes old new
 Surely goes old (Err why) new = ⊥
 

@@ -8,8 +8,10 @@ use Rattle.warm_gossip.specs.declared.fault.NodeFault.TheVariants.{StaleSlot}
 use Rattle.warm_c.specs.declared.open_node.OpenNode.{OpenNode}
 use Rattle.warm_c_base.specs.declared.status.Refusal.{Refusal}
 use Rattle.warm_c_base.specs.declared.status.Refusal.TheVariants.{Node}
+use Rattle.warm_c_base.specs.declared.values.PinnedSlot.{PinnedSlot}
+use Rattle.warm_c_base.specs.declared.values.WarmPage.{WarmPage}
 use Rattle.warm_c_base.specs.declared.values.WarmSlot.{WarmSlot}
-use Rattle.warm_c.specs.Calls.{Ending, SameDevices}
+use Rattle.warm_c.specs.Calls.{Ending, Pins, SameDevices}
 use Rattle.warm_c_base.specs.Values.{slot_of_c}
 
 -- the slot does not hold its page, and the pointer is as it was
@@ -24,6 +26,14 @@ abbrev pub Lends : WarmSlot → Ptr → Ptr → OpenNode → Ending → OpenNode
 Lends slot before after old (Ok given) new = Holds (view_of old.node.pool) (slot_of_c slot)
     × (new ≡ old)
 Lends slot before after old (Err why) new = LendRefused slot before after old why × (new ≡ old)
+
+-- The page is pinned as by a pin, and an address is written. That it is that of the page's bytes is
+-- nothing that a clause can say. A refused call writes none.
+abbrev pub PinsAndLends : WarmPage → PinnedSlot → PinnedSlot → Ptr → Ptr → OpenNode → Ending
+    → OpenNode → Type 0
+PinsAndLends page before after at at' old (Ok given) new = Pins page before after old (Ok given) new
+PinsAndLends page before after at at' old (Err why) new =
+    Pins page before after old (Err why) new × (at' ≡ at)
 
 -- To be written to
 

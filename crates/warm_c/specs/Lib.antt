@@ -3,11 +3,9 @@ pub mod CountCalls
 pub mod Devices
 pub mod Engine
 pub mod FilledPins
-pub mod FrameParts
 pub mod Handles
 pub mod LentBytes
+pub mod MessageLimits
 pub mod Ownership
-pub mod PartCalls
-pub mod Parts
-pub mod Peers
 pub mod Since
+pub mod Visits

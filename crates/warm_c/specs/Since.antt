@@ -1,15 +1,14 @@
 -- What a send of what is new since a time does, and what it writes.
-use Rattle.std.specs.Prelude.{ℕ, ◌-◌, ◌<◌, ◌≡◌, ◌⊎◌, Bool, true, false, List, length, Option, Some}
+use Rattle.std.specs.Prelude.{ℕ, ◌-◌, ◌≡◌, ◌⊎◌, List, length, Option, Some}
 use Rattle.std.specs.Prelude.{None, Ok, Err, slice_get}
 use Rattle.warm_stamps.specs.Buckets.{IsBucket}
 use Rattle.warm_stamps.specs.declared.PageId.{PageId}
-use Rattle.warm_history.specs.declared.hist.Entry.{Entry}
+use Rattle.warm_history.specs.Entry.{Entry}
 use Rattle.warm_frames.specs.declared.message.Message.{Message}
 use Rattle.warm_frames.specs.Limits.{entries_in}
-use Rattle.warm_gossip.specs.declared.fault.NodeFault.TheVariants.{Memory}
 use Rattle.warm_peer.specs.Since.{HasMoreSince, sent_since}
 use Rattle.warm_c.specs.declared.open_node.OpenNode.{OpenNode}
-use Rattle.warm_c_base.specs.declared.status.Refusal.TheVariants.{BadBucket, Node}
+use Rattle.warm_c_base.specs.declared.status.Refusal.TheVariants.{BadBucket}
 use Rattle.warm_c_base.specs.declared.values.WarmPage.{WarmPage}
 use Rattle.warm_c.specs.Calls.{Ending, PutsFrame}
 use Rattle.warm_c_base.specs.Values.{c_page, IsBool}
@@ -43,15 +42,6 @@ last_in message before =
 abbrev pub message_since : ℕ → ℕ → Option PageId → OpenNode → Message
 message_since bucket since after h = sent_since h.node.id h.node.history bucket since after
 
--- The frame of a message is put into the buffer. Nothing is put there if the message has no entry,
--- and is not to be sent without one. Memory may fail in any case.
-abbrev pub PutsSent : Bool → Message → List ℕ → ℕ → List ℕ → ℕ → Ending → Type 0
-PutsSent true message before len after len' ending = PutsFrame message before len after len' ending
-PutsSent false message before len after len' ending =
-    ((length (entries_in message) ≡ 0) × (ending ≡ Ok tt) × (after ≡ before) × (len' ≡ len))
-    ⊎ (PutsFrame message before len after len' ending
-    × ((0 < length (entries_in message)) ⊎ (ending ≡ Err (Node Memory))))
-
 -- how many entries there are, whether more follow, and the page of the last one are written; a
 -- refused call writes none of them
 abbrev pub PutsPlace : ℕ → ℕ → Option PageId → SendBuffers → SendBuffers → OpenNode → Ending
@@ -64,12 +54,11 @@ PutsPlace bucket since after old new h (Err why) = (new.entries ≡ old.entries)
     × (new.more ≡ old.more) × (new.last ≡ old.last)
 
 -- the number is no bucket's, and nothing has changed; or the message of that bucket is put into the
--- buffer, also without an entry if that is asked for
-abbrev pub SendsSince : ℕ → ℕ → Option PageId → Bool → SendBuffers → SendBuffers → OpenNode → Ending
+-- buffer
+abbrev pub SendsSince : ℕ → ℕ → Option PageId → SendBuffers → SendBuffers → OpenNode → Ending
     → OpenNode → Type 0
-SendsSince bucket since after even_empty old new h ending h' =
+SendsSince bucket since after old new h ending h' =
     ((IsBucket bucket → ⊥) × (ending ≡ Err BadBucket) × (new ≡ old) × (h' ≡ h))
     ⊎ (IsBucket bucket
-    × PutsSent even_empty (message_since bucket since after h) old.frame old.len new.frame new.len
-    ending
+    × PutsFrame (message_since bucket since after h) old.frame old.len new.frame new.len ending
     × PutsPlace bucket since after old new h ending × (h' ≡ h))

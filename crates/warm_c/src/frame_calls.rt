@@ -1,8 +1,8 @@
 //! The call of an open handle that writes frames of entries, and how any frame is written.
-ghost use Rattle.std.specs.Prelude.{◌≡◌, ◌<◌, ◌≤◌, length};
+ghost use Rattle.std.specs.Prelude.{◌≡◌, ◌≤◌, length};
 ghost use Rattle.warm_frames.specs.Limits.{entries_in};
 ghost use Rattle.warm_c.specs.Calls.{PutsFrame};
-ghost use Rattle.warm_c.specs.Since.{PutsSent, SendsSince, last_in, send_buffers};
+ghost use Rattle.warm_c.specs.Since.{SendsSince, last_in, send_buffers};
 ghost use Rattle.warm_c_base.specs.Values.{with_start};
 
 use crate::open_node::OpenNode;
@@ -39,33 +39,13 @@ pub(crate) fn put_frame(
 }
 
 // How many entries a message has.
-fn entry_count(message: &Message) -> usize
+pub(crate) fn entry_count(message: &Message) -> usize
     ensures { result ≡ length (entries_in message.now) }
 {
     let Message::Entries { entries, .. } = message else {
         return 0;
     };
     entries.as_slice().len()
-}
-
-// Puts the frame of a message at the start of a buffer, and writes its length; nothing of a message
-// without entries, unless that is to be sent too.
-fn put_sent(
-    alloc: Global,
-    message: &Message,
-    even_empty: bool,
-    frame: &mut [u8],
-    len: &mut usize,
-) -> Result<(), Refusal>
-    ensures { PutsSent even_empty message.now frame.old len.old frame.new len.new result }
-{
-    if even_empty {
-        return put_frame(alloc, message, frame, len);
-    }
-    if entry_count(message) == 0 {
-        return Ok(());
-    }
-    put_frame(alloc, message, frame, len)
 }
 
 // Writes the page of the last entry of a message, if it has one.
@@ -82,8 +62,7 @@ fn put_last(message: &Message, last: &mut WarmPage)
 
 impl OpenNode {
     /// Calls [`warm_gossip::Node::send_since`] and writes the frame of its message, its length, how
-    /// many entries it has, whether more follow, and the page of the last one. Of a message without
-    /// entries, unless `even_empty`, neither frame nor length is written.
+    /// many entries it has, whether more follow, and the page of the last one.
     ///
     /// # Errors
     /// The buffer, `entries`, `more` and `last` are unchanged.
@@ -96,14 +75,13 @@ impl OpenNode {
         bucket: u8,
         since: u64,
         after: Option<PageId>,
-        even_empty: bool,
         frame: &mut [u8],
         len: &mut usize,
         entries: &mut usize,
         more: &mut u8,
         last: &mut WarmPage,
     ) -> Result<(), Refusal>
-        ensures { SendsSince bucket since after even_empty
+        ensures { SendsSince bucket since after
             (send_buffers frame.old len.old entries.old more.old last.old)
             (send_buffers frame.new len.new entries.new more.new last.new)
             self.old result self.new }
@@ -112,7 +90,7 @@ impl OpenNode {
             return Err(Refusal::BadBucket);
         };
         let sent = self.node.send_since(bucket, since, after)?;
-        if let Err(why) = put_sent(alloc, &sent.message, even_empty, frame, len) {
+        if let Err(why) = put_frame(alloc, &sent.message, frame, len) {
             return Err(why);
         }
         *entries = entry_count(&sent.message);

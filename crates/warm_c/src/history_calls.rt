@@ -1,18 +1,38 @@
 //! The calls on the history of an open handle.
-ghost use Rattle.std.specs.Prelude.{◌≡◌, ◌≤◌, length, map, IfErr, IfOk};
-ghost use Rattle.warm_c.specs.Calls.{Absorbs, BatchRefused, CountsPages, Lists, Raises};
+ghost use Rattle.std.specs.Prelude.{◌≡◌, ◌≤◌, length, map, IfErr, IfOk, OnOk};
+ghost use Rattle.warm_c.specs.Calls.{Absorbs, AreOfReplicas, BatchRefused, CountsPages};
+ghost use Rattle.warm_c.specs.Calls.{HasBadReplica, Lists};
 ghost use Rattle.warm_c_base.specs.Values.{c_page, reference_of, with_start};
+ghost use Rattle.warm_c_base.specs.declared.status.Refusal.TheVariants.{BadReplica};
 
 use crate::open_node::OpenNode;
 use std::alloc::{AllocError, Global};
 use warm_c_base::{Refusal, WarmPage, WarmReference};
 use warm_stamps::{PageId, Reference, ReplicaId, Stamp};
 
-// The references, as the node knows them.
-fn references_of(alloc: Global, batch: &[WarmReference]) -> Result<Vec<Reference>, Refusal>
+// Checks that each reference is of a replica.
+fn check_replicas(batch: &[WarmReference]) -> Result<(), Refusal>
+    ensures good { OnOk result (AreOfReplicas batch.now) }
+    ensures bad { IfErr result (λ why. (why ≡ BadReplica) × HasBadReplica batch.now) }
+{
+    for reference in batch {
+        if let Err(_number) = ReplicaId::new(reference.replica) {
+            return Err(Refusal::BadReplica);
+        }
+    }
+    Ok(())
+}
+
+// The references, as a node knows them.
+pub(crate) fn references_of(
+    alloc: Global,
+    batch: &[WarmReference],
+) -> Result<Vec<Reference>, Refusal>
     ensures made { IfOk result (λ references. references.items ≡ map reference_of batch.now) }
+    ensures good { OnOk result (AreOfReplicas batch.now) }
     ensures refused { IfErr result (BatchRefused batch.now) }
 {
+    check_replicas(batch)?;
     let mut references = Vec::with_capacity(alloc, batch.len())?;
     for reference in batch {
         let Ok(replica) = ReplicaId::new(reference.replica) else {
@@ -55,8 +75,8 @@ impl OpenNode {
     /// Calls [`warm_gossip::Node::absorb`].
     ///
     /// # Errors
-    /// Nothing has changed.
-    /// - `BadReplica`: one of them has a replica's number that is not valid.
+    /// In this order; nothing has changed.
+    /// - `BadReplica`: one of the references has a replica's number that is not valid.
     /// - `Node`: the node's own.
     pub fn absorb(&mut self, alloc: Global, batch: &[WarmReference]) -> Result<(), Refusal>
         ensures { Absorbs batch.now self.old result self.new }
@@ -64,13 +84,6 @@ impl OpenNode {
         let references = references_of(alloc, batch)?;
         self.node.absorb(&references)?;
         Ok(())
-    }
-
-    /// Calls [`warm_gossip::Node::raise`], and returns the horizon from then on.
-    pub fn raise(&mut self, time: u64) -> u64
-        ensures { Raises time result self.old self.new }
-    {
-        self.node.raise(time)
     }
 
     /// Calls [`warm_gossip::Node::warm_list`] for as many pages as there is room for, puts them at

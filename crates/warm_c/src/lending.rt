@@ -1,14 +1,14 @@
 //! Lending the bytes of a page to C.
 ghost use Rattle.std.specs.Prelude.{◌≡◌, ◌<◌, length};
 ghost use Rattle.std.specs.Ptr.{as_ptr};
-ghost use Rattle.warm_c.specs.LentBytes.{Lends, LendsMut};
+ghost use Rattle.warm_c.specs.LentBytes.{Lends, LendsMut, PinsAndLends};
 
 use crate::open_node::OpenNode;
-use warm_c_base::{Refusal, WarmSlot};
+use warm_c_base::{PinnedSlot, Refusal, WarmPage, WarmSlot};
 use warm_gossip::NodeFault;
 
 // Returns the address of the first of these bytes.
-pub(crate) fn address_of(bytes: &[u8]) -> *const u8
+fn address_of(bytes: &[u8]) -> *const u8
     requires { 0 < length bytes.now }
     ensures { result ≡ as_ptr bytes.entry }
 {
@@ -25,6 +25,27 @@ fn address_of_mut(bytes: &mut [u8]) -> *mut u8
 }
 
 impl OpenNode {
+    /// Calls [`warm_gossip::Node::pin`], and writes the slot and the address of the page's bytes,
+    /// which stay there as [`OpenNode::bytes`] says.
+    ///
+    /// # Errors
+    /// `Node`: the node's own. The slot and the pointer are unchanged.
+    pub fn pin_bytes(
+        &mut self,
+        page: WarmPage,
+        slot: &mut PinnedSlot,
+        bytes: &mut *const u8,
+    ) -> Result<(), Refusal>
+        ensures { PinsAndLends page slot.old slot.new bytes.old bytes.new self.old result self.new }
+    {
+        let given = self.node.pin(page.page())?;
+        let pool = self.node.pool();
+        pool.prove_is_pool();
+        *bytes = address_of(pool.bytes(given));
+        *slot = PinnedSlot::of(given);
+        Ok(())
+    }
+
     /// Writes the address of the bytes of the slot's page. They stay there until the page has no
     /// pin: a frame whose page is pinned keeps its bytes where they are.
     ///

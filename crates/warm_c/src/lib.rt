@@ -16,9 +16,12 @@
 //! - [`node_open`] and [`node_close`] create and drop the node. Each of the other functions that
 //!   take a handle returns 64 on a closed one, and changes nothing.
 //!
-//! Devices, files, and what crosses to C by value are of `warm_c_base`. c/fd_calls.c has what is not
-//! proved: the calls of the system on the descriptors. c/heap.c, where its memory is from, is not
-//! proved either.
+//! A call of a whole replica, of one node or more, is a visit of `warm_shards`, which has a handle
+//! of its own kind: [`visit_exports`].
+//!
+//! Devices, files, and what crosses to C by value are of `warm_c_base`. c/fd_calls.c has what is
+//! not proved: the calls of the system on the descriptors. c/heap.c, where its memory is from, is
+//! not proved either.
 //!
 //! Nothing is undefined for any handle, slot or length, as long as the caller keeps what the header
 //! asks: a handle that was all zeros before its first call, and that only these functions change;
@@ -27,9 +30,8 @@
 #![tactic(auto)]
 
 ghost use Rattle.std.specs.Prelude.{◌≡◌, None, Some};
-ghost use Rattle.warm_c.specs.Calls.{Absorbs, CountsPages, Lists, Loads, Names, Pins};
-ghost use Rattle.warm_c.specs.Calls.{Raises, ReadsSlot, Saves, SaysResident, StepsWarmUp, Unpins};
-ghost use Rattle.warm_c.specs.Calls.{Writes};
+ghost use Rattle.warm_c.specs.Calls.{Absorbs, CountsPages, Lists, Loads, Names, Pins, ReadsSlot};
+ghost use Rattle.warm_c.specs.Calls.{Saves, SaysResident, StepsWarmUp, Unpins, Writes};
 ghost use Rattle.warm_c.specs.CountCalls.{CountsDevice, CountsPool, SaysFailure};
 ghost use Rattle.warm_c.specs.Devices.{Replaces};
 ghost use Rattle.warm_c.specs.Engine.{FlushesDevice, ForgetsPages, NamesDirty, NodeWritesBackPage};
@@ -47,24 +49,24 @@ mod device_calls;
 mod dump_calls;
 mod engine_calls;
 mod frame_calls;
-mod frame_parts;
 pub mod handle;
 pub mod held_pointer;
 mod history_calls;
 pub mod laws;
 mod lending;
+pub mod message_limits;
 pub mod open_node;
-pub mod open_peer;
+pub mod open_visit;
 mod opening;
-mod part_calls;
 pub mod part_exports;
-mod peer_calls;
-pub mod peer_exports;
-pub mod peer_handle;
-pub mod peer_pointer;
 mod pool_calls;
 pub mod raw_box;
-pub mod shard_parts;
+mod visit_begins;
+mod visit_called;
+mod visit_calls;
+pub mod visit_exports;
+pub mod visit_handle;
+pub mod visit_pointer;
 
 use crate::called::{closed, on_open, put_back};
 use crate::handle::Handle;
@@ -133,7 +135,7 @@ pub extern "C" fn node_close(alloc: Global, handle: &mut Handle)
 /// Adds references to the history, all or none.
 ///
 /// # Errors
-/// Nothing has changed.
+/// In this order; nothing has changed.
 /// - 67: one of them has a replica's number that is not valid.
 /// - 1: an allocation failed.
 #[unsafe(no_mangle)]
@@ -487,11 +489,10 @@ pub extern "C" fn node_next(
     }
 }
 
-/// Writes a frame with entries of a bucket: the first 1000 of those whose latest stamp is not
-/// before the time `since` and, if `has_after`, whose page is greater than `after`. Also writes its
-/// length, how many entries it has, whether more of them follow, 1 or 0, and the page of the last
-/// one, after which to go on. If there is no such entry, `last` is unchanged; so are the buffer and
-/// the length, unless `even_empty`.
+/// Writes the frame with the first 1000 entries of a bucket, of those whose latest stamp is not
+/// before the time `since`, and, if `has_after`, whose page is greater than `after`; its length;
+/// how many entries it has; whether more of them follow, 1 or 0; and the page of the last one,
+/// after which to go on. Where there is none, `last` is unchanged.
 ///
 /// # Errors
 /// The buffer, `entries`, `more` and `last` are unchanged.
@@ -506,14 +507,13 @@ pub extern "C" fn node_send_since(
     since: u64,
     has_after: bool,
     after: WarmPage,
-    even_empty: bool,
     frame: &mut [u8],
     len: &mut usize,
     entries: &mut usize,
     more: &mut u8,
     last: &mut WarmPage,
 ) -> i32
-    ensures called { OnHandle (SendsSince bucket since (page_if has_after after) even_empty
+    ensures called { OnHandle (SendsSince bucket since (page_if has_after after)
         (send_buffers frame.old len.old entries.old more.old last.old)
         (send_buffers frame.new len.new entries.new more.new last.new)) handle.old.held.node result
         handle.new.held.node }
@@ -525,30 +525,8 @@ pub extern "C" fn node_send_since(
         return closed();
     };
     let after = page_if(has_after, after);
-    let done = node.send_since(
-        alloc, bucket, since, after, even_empty, frame, len, entries, more, last,
-    );
+    let done = node.send_since(alloc, bucket, since, after, frame, len, entries, more, last);
     put_back(handle, node, done)
-}
-
-/// Raises the horizon to this time, unless it is later already: forgets all stamps before it, and
-/// writes the horizon from then on.
-#[unsafe(no_mangle)]
-pub extern "C" fn node_raise(
-    alloc: Global,
-    handle: &mut Handle,
-    time: u64,
-    horizon: &mut u64,
-) -> i32
-    ensures called { OnHandle (Surely (Raises time horizon.new)) handle.old.held.node result
-        handle.new.held.node }
-    ensures closed { handle.old.held.node ≡ None → horizon.new ≡ horizon.old }
-{
-    let Some(mut node) = handle.take(alloc) else {
-        return closed();
-    };
-    *horizon = node.raise(time);
-    put_back(handle, node, Ok(()))
 }
 
 /// Writes back one page, if it is in a frame and dirty, and writes whether it was, 1 or 0. No

@@ -13,7 +13,8 @@ use Rattle.warm_c_base.specs.declared.status.Refusal.{Refusal}
 use Rattle.warm_c_base.specs.declared.status.Refusal.TheVariants.{Node, NewPool, Frame, Closed}
 use Rattle.warm_c_base.specs.declared.status.Refusal.TheVariants.{AlreadyOpen, BufferTooSmall}
 use Rattle.warm_c_base.specs.declared.status.Refusal.TheVariants.{BadReplica, BadBucket, SameFile}
-use Rattle.warm_c_base.specs.declared.status.Refusal.TheVariants.{Late, BadShards, NoShard, Dump}
+use Rattle.warm_c_base.specs.declared.status.Refusal.TheVariants.{Late, BadShards, Dump}
+use Rattle.warm_c_base.specs.declared.status.Refusal.TheVariants.{TooManyPages}
 
 -- 1 of an allocation failure, wherever it comes; of another fault of a frame the fault's own number
 -- and 32
@@ -44,8 +45,8 @@ code_of BadBucket = 68
 code_of SameFile = 69
 code_of (Late fault) = late_code_of fault
 code_of BadShards = 72
-code_of NoShard = 76
 code_of (Dump fault) = dump_code_of fault
+code_of TooManyPages = 84
 
 -- 0, or the number of the refusal
 abbrev pub status_of : {T : Type 0} → Result T Refusal → ℤ

@@ -9,8 +9,8 @@ use warm_frames::{FrameFault, TimeFault};
 use warm_gossip::NodeFault;
 use warm_pool::NewPoolFault;
 
-/// Why a call is refused. Each has a number, which is its status. 73 to 75, and those from 83 on,
-/// are refusals of c/ alone.
+/// Why a call is refused. Each has a number, which is its status. 73 to 76 and 83, and those from 85
+/// on, are refusals of c/ alone.
 #[derive(Clone, Copy)]
 pub enum Refusal {
     /// 1, or 4 to 13: why the node refuses; 1 is an allocation failure, wherever it comes.
@@ -36,11 +36,12 @@ pub enum Refusal {
     Late(TimeFault),
     /// 72: the number of shards is no power of two, or it is more than 64.
     BadShards,
-    /// 76: there is no shard of this number.
-    NoShard,
     /// 1, 35 to 42, or 77 to 82: why a dump is not written or not read. The fault of a frame in it
     /// has the frame's number; others have the fault's own number and 64.
     Dump(DumpFault),
+    /// 84: the history would know more pages than the limit, if each entry of a message were of a
+    /// new page.
+    TooManyPages,
 }
 
 /// An allocation failure is `Memory`.
@@ -121,8 +122,8 @@ impl Refusal {
             Refusal::SameFile => 69,
             Refusal::Late(fault) => late_code(fault),
             Refusal::BadShards => 72,
-            Refusal::NoShard => 76,
             Refusal::Dump(fault) => dump_code(fault),
+            Refusal::TooManyPages => 84,
         }
     }
 }

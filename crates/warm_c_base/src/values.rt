@@ -21,14 +21,14 @@ pub struct WarmPage {
 #[repr(C)]
 #[derive(Clone, Copy)]
 pub struct WarmReference {
-    /// When, in units of the caller's clock.
-    pub time: u64,
-    /// The page's number on its device.
-    pub no: u64,
-    /// The device's number.
-    pub dev: u16,
     /// The number of the replica that saw it, 1 to 64. Another is refused.
     pub replica: u16,
+    /// The device's number.
+    pub dev: u16,
+    /// The page's number on its device.
+    pub no: u64,
+    /// When, in units of the caller's clock.
+    pub time: u64,
 }
 
 /// Where a pinned page is: a frame of the pool, and how many pages were put into it so far.

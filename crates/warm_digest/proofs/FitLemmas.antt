@@ -12,9 +12,9 @@ use Rattle.warm_stamps.specs.Stamps.{stamp_cmp, page_cmp}
 use Rattle.warm_stamps.specs.Distinct.{insert_distinct, distinct, IsAscending}
 use Rattle.warm_stamps.proofs.DistinctLemmas.{by_cases, all_append, all_filter, distinct_rises}
 use Rattle.warm_stamps.proofs.StampLemmas.{stamp_order, IsStrictOrder-flip}
-use Rattle.warm_history.specs.declared.hist.PageHist.{PageHist}
-use Rattle.warm_history.specs.declared.hist.PageHist.TheVariants.{Once, Twice}
-use Rattle.warm_history.specs.declared.hist.Entry.{Entry}
+use Rattle.warm_history.specs.PageHist.{PageHist}
+use Rattle.warm_history.specs.PageHist.TheVariants.{Once, Twice}
+use Rattle.warm_history.specs.Entry.{Entry}
 use Rattle.warm_history.specs.ListHistories.{references_of_entry}
 use Rattle.warm_history.specs.ReferenceSets.{ReferenceSet, references}
 use Rattle.warm_history.specs.Histories.{references_of_entries, references_to, stamps, first_two, hist, pages, history}

@@ -2,7 +2,7 @@
 use Rattle.std.specs.Prelude.{◌≡◌, ◌⊎◌, ◌↔◌, ℕ, ◌<◌, List}
 use Rattle.std.specs.Int.{bit_at}
 use Rattle.warm_stamps.specs.declared.TheConstants.{BUCKETS}
-use Rattle.warm_history.specs.declared.hist.Entry.{Entry}
+use Rattle.warm_history.specs.Entry.{Entry}
 use Rattle.warm_history.specs.Changes.{ChangesIn}
 use Rattle.warm_history.specs.Histories.{HistoryView, entries_of}
 use Rattle.warm_history.specs.Losses.{LosesIn}

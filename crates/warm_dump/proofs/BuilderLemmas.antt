@@ -1,7 +1,7 @@
 -- What entries that wait, or are joined, say beside a history.
 use Rattle.std.proofs.Common.{◌≡◌, ℕ, max, List, [], ◌∷◌, ◌++◌, refl, sym, ap, subst, ◌∙◌, append_assoc, append-nil, arith}
 use Rattle.std.proofs.Math.Nat.{le_refl}
-use Rattle.warm_history.specs.declared.hist.Entry.{Entry}
+use Rattle.warm_history.specs.Entry.{Entry}
 use Rattle.warm_history.specs.ReferenceSets.{ReferenceSet, ◌∪◌}
 use Rattle.warm_history.specs.Histories.{HistoryView, IsHistory, references_of_entry, references_of_entries, history, history_of_entries_at, join, references_of, StandsFor, TakesIn}
 use Rattle.warm_history.specs.Losses.{raised}

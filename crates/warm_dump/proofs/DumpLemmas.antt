@@ -6,7 +6,7 @@ use Rattle.std.proofs.KnownBytes.{Appends-trans}
 use Rattle.std.proofs.lemmas.List.Concat.{flat_map-append, flat_map-cons}
 use Rattle.std.proofs.lemmas.List.FromFn.{map-range_with_len_more}
 use Rattle.std.proofs.lemmas.List.{length-drop, length-take, take_at, drop_at, take_all, drop_all}
-use Rattle.warm_history.specs.declared.hist.Entry.{Entry}
+use Rattle.warm_history.specs.Entry.{Entry}
 use Rattle.warm_history.specs.Carried.{bucket_entries}
 use Rattle.warm_history.specs.Histories.{HistoryView, entries_of}
 use Rattle.warm_frames.specs.declared.layout.TheConstants.{MAX_ENTRIES}

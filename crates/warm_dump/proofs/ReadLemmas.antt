@@ -5,7 +5,7 @@ use Rattle.std.proofs.lemmas.List.Concat.{flat_map-append}
 use Rattle.std.proofs.lemmas.List.{take_all, take-append-drop, length-append, length-take}
 use Rattle.std.proofs.Math.Nat.{max_comm, max-eq_left}
 use Rattle.warm_stamps.proofs.DistinctLemmas.{all_append}
-use Rattle.warm_history.specs.declared.hist.Entry.{Entry}
+use Rattle.warm_history.specs.Entry.{Entry}
 use Rattle.warm_history.specs.ReferenceSets.{ReferenceSet, set_of_list, with_horizon, ◌∪◌}
 use Rattle.warm_history.specs.Histories.{HistoryView, entries_of, references_of_entries, history, history_of_entries_at, references_of, StandsFor, TakesIn}
 use Rattle.warm_history.specs.Losses.{raised}

@@ -17,7 +17,7 @@ use Rattle.warm_stamps.specs.Distinct.{distinct}
 use Rattle.warm_stamps.specs.Replicas.{IsReplica}
 use Rattle.warm_stamps.specs.Stamps.{stamp_cmp, page_cmp}
 use Rattle.warm_stamps.proofs.DistinctLemmas.{all_append, all_filter, all_take, rising_filter, rising_take}
-use Rattle.warm_history.specs.declared.hist.Entry.{Entry}
+use Rattle.warm_history.specs.Entry.{Entry}
 use Rattle.warm_history.specs.ListHistories.{known_stamps, list_hist, first_two}
 use Rattle.warm_history.specs.Carried.{bucket_entries}
 use Rattle.warm_history.specs.Histories.{HistoryView, PagesAscend, IsHistory, entries_of, references_of_entries, history, references_of}

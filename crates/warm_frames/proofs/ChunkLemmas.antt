@@ -8,7 +8,7 @@ use Rattle.warm_stamps.specs.Buckets.{page_bucket}
 use Rattle.warm_stamps.specs.Distinct.{IsAscending}
 use Rattle.warm_stamps.specs.Stamps.{page_cmp}
 use Rattle.warm_stamps.proofs.DistinctLemmas.{rising_filter, rising_take}
-use Rattle.warm_history.specs.declared.hist.Entry.{Entry}
+use Rattle.warm_history.specs.Entry.{Entry}
 use Rattle.warm_history.specs.Carried.{bucket_entries}
 use Rattle.warm_history.specs.Histories.{HistoryView, entries_of, PagesAscend, IsHistory}
 use Rattle.warm_frames.specs.declared.layout.TheConstants.{MAX_ENTRIES}

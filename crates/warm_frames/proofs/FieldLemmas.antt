@@ -13,9 +13,9 @@ use Rattle.warm_stamps.specs.declared.PageId.{PageId}
 use Rattle.warm_stamps.specs.Bytes.{bytes_of_stamp, stamp_of, bytes_of_page, page_from_bytes, narrow_bytes_of_page, page_of_narrow, IsReplica, IsStamp, IsPage}
 use Rattle.warm_stamps.specs.Stamps.{stamp_cmp}
 use Rattle.warm_stamps.proofs.ByteLemmas.{IsBytes, IsBytes-take, IsBytes-drop, stamp_again, stamp_spelled, IsStamp-of, page_again, page_spelled, IsPage-of, narrow_again, narrow_spelled, IsNarrow-of, IsPage-of_narrow}
-use Rattle.warm_history.specs.declared.hist.PageHist.{PageHist}
-use Rattle.warm_history.specs.declared.hist.PageHist.TheVariants.{Once, Twice}
-use Rattle.warm_history.specs.declared.hist.Entry.{Entry}
+use Rattle.warm_history.specs.PageHist.{PageHist}
+use Rattle.warm_history.specs.PageHist.TheVariants.{Once, Twice}
+use Rattle.warm_history.specs.Entry.{Entry}
 use Rattle.warm_history.specs.Carried.{comes_after}
 use Rattle.warm_frames.specs.declared.format.Format.{Format}
 use Rattle.warm_frames.specs.declared.format.Format.TheVariants.{Narrow, Wide}

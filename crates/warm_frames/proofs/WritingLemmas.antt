@@ -4,7 +4,7 @@ use Rattle.std.specs.List.{flat_map}
 use Rattle.std.proofs.lemmas.List.{append-nil, take_more, length-append}
 use Rattle.std.proofs.lemmas.List.Concat.{flat_map-append}
 use Rattle.warm_stamps.specs.Bytes.{bytes_of_page, IsReplica}
-use Rattle.warm_history.specs.declared.hist.Entry.{Entry}
+use Rattle.warm_history.specs.Entry.{Entry}
 use Rattle.warm_frames.specs.declared.format.Format.TheVariants.{Wide}
 use Rattle.warm_frames.specs.declared.message.Message.TheVariants as messages
 use Rattle.warm_frames.specs.Entries.{hist_bytes, entry_bytes, entries_bytes}

@@ -1,6 +1,6 @@
 -- Lists in chunks, and the messages of entries that are made of them.
 use Rattle.std.specs.Prelude.{ℕ, zero, suc, List, [], ◌∷◌, length, take, drop, map}
-use Rattle.warm_history.specs.declared.hist.Entry.{Entry}
+use Rattle.warm_history.specs.Entry.{Entry}
 use Rattle.warm_history.specs.Histories.{HistoryView, entries_of}
 use Rattle.warm_history.specs.Carried.{bucket_entries}
 use Rattle.warm_frames.specs.declared.layout.TheConstants.{MAX_ENTRIES}

@@ -1,7 +1,7 @@
 -- The times that a message speaks of, against a limit.
 use Rattle.std.specs.Prelude.{ℕ, ◌≤◌, List, []}
 use Rattle.std.specs.List.{AllByRecursion}
-use Rattle.warm_history.specs.declared.hist.Entry.{Entry}
+use Rattle.warm_history.specs.Entry.{Entry}
 use Rattle.warm_history.specs.Histories.{hist_stamps}
 use Rattle.warm_frames.specs.declared.message.Message.{Message}
 use Rattle.warm_frames.specs.declared.message.Message.TheVariants.{Entries, Digest, Want}

@@ -16,7 +16,7 @@ pub struct EntryList {
 
 impl Model for EntryList {
     ghost use Rattle.std.specs.Prelude.{List};
-    ghost use Rattle.warm_history.specs.declared.hist.Entry.{Entry};
+    ghost use Rattle.warm_history.specs.Entry.{Entry};
     ghost use Rattle.warm_frames.specs.Entries.{IsEntryList};
 
     ghost Value = { List Entry };

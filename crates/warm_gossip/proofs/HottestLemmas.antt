@@ -11,8 +11,8 @@ use Rattle.warm_stamps.specs.Distinct.{distinct, IsAscending}
 use Rattle.warm_stamps.proofs.DistinctLemmas.{Has, IsStrictOrder, by_cases, flipped, distinct_rises, has_distinct, has_from_distinct}
 use Rattle.warm_stamps.proofs.StampLemmas.{page_order, IsStrictOrder-flip}
 use Rattle.warm_history.specs.ReferenceSets.{ReferenceSet, references}
-use Rattle.warm_history.specs.declared.hist.PageHist.{PageHist}
-use Rattle.warm_history.specs.declared.hist.PageHist.TheVariants.{Once, Twice}
+use Rattle.warm_history.specs.PageHist.{PageHist}
+use Rattle.warm_history.specs.PageHist.TheVariants.{Once, Twice}
 use Rattle.warm_history.specs.ListHistories.{list_references_to}
 use Rattle.warm_history.specs.Histories.{hist, pages, first_two}
 use Rattle.warm_history.proofs.HistoryLemmas.{some_named}

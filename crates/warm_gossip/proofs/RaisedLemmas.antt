@@ -9,9 +9,9 @@ use Rattle.warm_stamps.specs.declared.Reference.{Reference}
 use Rattle.warm_stamps.specs.Stamps.{stamp_cmp, page_cmp}
 use Rattle.warm_stamps.specs.Distinct.{distinct}
 use Rattle.warm_stamps.proofs.DistinctLemmas.{Has}
-use Rattle.warm_history.specs.declared.hist.Entry.{Entry}
-use Rattle.warm_history.specs.declared.hist.PageHist.{PageHist}
-use Rattle.warm_history.specs.declared.hist.PageHist.TheVariants.{Once, Twice}
+use Rattle.warm_history.specs.Entry.{Entry}
+use Rattle.warm_history.specs.PageHist.{PageHist}
+use Rattle.warm_history.specs.PageHist.TheVariants.{Once, Twice}
 use Rattle.warm_history.specs.ReferenceSets.{references, set_of_list, ◌∪◌}
 use Rattle.warm_history.specs.ListHistories.{list_references_of}
 use Rattle.warm_history.specs.Histories.{HistoryView, IsHistory, history_of_entries_at, first_two, hist, history, entries_of, references_of_entry, references_of}

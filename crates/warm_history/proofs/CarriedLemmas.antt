@@ -7,7 +7,7 @@ use Rattle.warm_stamps.specs.declared.Reference.{Reference}
 use Rattle.warm_stamps.specs.Stamps.{page_cmp}
 use Rattle.warm_history.specs.ReferenceSets.{ReferenceSet, is_kept, references_from, references, filter_references}
 use Rattle.warm_history.specs.ListHistories.{list_history}
-use Rattle.warm_history.specs.declared.hist.Entry.{Entry}
+use Rattle.warm_maps.specs.declared.hist.Entry.{Entry}
 use Rattle.warm_history.specs.Histories.{entries_of, history, history_of_entries, IsHistory}
 use Rattle.warm_history.specs.Carried.{is_next_in_bucket, pages_carried, carried}
 use Rattle.warm_history.proofs.HistoryLemmas.{entries-history, IsHistory-history, never_older}

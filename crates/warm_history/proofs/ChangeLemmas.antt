@@ -13,8 +13,8 @@ use Rattle.warm_stamps.specs.Stamps.{page_cmp}
 use Rattle.warm_stamps.proofs.BucketLemmas.{with_same, with_other}
 use Rattle.warm_stamps.proofs.DistinctLemmas.{is_equal, rising_filter}
 use Rattle.warm_stamps.proofs.StampLemmas.{page_order}
-use Rattle.warm_history.specs.declared.hist.PageHist.{PageHist}
-use Rattle.warm_history.specs.declared.hist.Entry.{Entry}
+use Rattle.warm_maps.specs.declared.hist.PageHist.{PageHist}
+use Rattle.warm_maps.specs.declared.hist.Entry.{Entry}
 use Rattle.warm_history.specs.Carried.{bucket_entries}
 use Rattle.warm_history.specs.Changes.{SameInBucket, MarksChanged}
 use Rattle.warm_history.specs.Histories.{history_of_entries_at, NoneOlder, entries_of}
@@ -22,18 +22,20 @@ use Rattle.warm_history.specs.Histories as view
 use Rattle.warm_history.specs.KeptEntries.{kept_entries}
 use Rattle.warm_history.specs.ListHistories.{list_hist, list_history, references_of_entry, list_references_of, known_stamps, IsListHistory, PagesAscend}
 use Rattle.warm_history.specs.Losses.{raised, MarksLosing}
-use Rattle.warm_history.specs.maps.MapKeys.{first_key, page_of_key, IsMapKey}
+use Rattle.warm_maps.specs.MapKeys.{first_key, page_of_key, IsMapKey}
 use Rattle.warm_history.specs.ReferenceSets.{references_from}
-use Rattle.warm_history.specs.maps.MapPairs.{MapPairs, kept, AreKept, references_at, TakesRecent, TakesStamps}
-use Rattle.warm_history.specs.maps.BucketMaps.{found}
+use Rattle.warm_maps.specs.MapPairs.{MapPairs, AreKept}
+use Rattle.warm_history.specs.maps.KeptPairs.{kept, references_at, TakesRecent, TakesStamps}
+use Rattle.warm_maps.specs.BucketMaps.{found}
 use Rattle.warm_history.proofs.KeptLemmas.{entries_recent, history-kept, kept-append, kept_within}
 use Rattle.warm_history.proofs.ListHistoryLemmas.{get, joined, same_gets, get-history, hist-append, hist-refs, IsHistory-history}
 use Rattle.warm_history.proofs.ListJoinLemmas.{hist_repeat, history_of_own_references}
 use Rattle.warm_history.proofs.OrderLemmas.{get-filter}
-use Rattle.warm_history.proofs.EntryLemmas.{hist_entry, latest_of_swap}
-use Rattle.warm_history.proofs.maps.MapKeyOrder.{from_first, below_next}
+use Rattle.warm_history.proofs.EntryLemmas.{hist_entry}
+use Rattle.warm_maps.proofs.LatestLemmas.{latest_of_swap}
+use Rattle.warm_maps.proofs.MapKeyOrder.{from_first, below_next}
 use Rattle.warm_history.proofs.HorizonLemmas.{bucket_left, none_left_older, raised_bucket}
-use Rattle.warm_history.proofs.maps.MapPairLemmas.{IsHistory-kept, find-kept}
+use Rattle.warm_history.proofs.maps.KeptPairLemmas.{IsHistory-kept, find-kept}
 
 -- ---- a bucket says all of its pages
 

@@ -1,50 +1,18 @@
 -- What an entry more does to a history.
-use Rattle.std.proofs.Common.{◌≡◌, Bool, true, false, cond, List, [], ◌∷◌, ◌++◌, sym, ap, refl, ◌∙◌, subst, Some}
-use Rattle.std.specs.Ordering.{is_eq, on, flip_args}
+use Rattle.std.proofs.Common.{◌≡◌, Bool, true, false, cond, List, [], ◌++◌, sym, ap, refl, ◌∙◌, subst}
+use Rattle.std.specs.Ordering.{is_eq, on}
 use Rattle.std.proofs.lemmas.List.{append-nil}
-use Rattle.warm_stamps.specs.declared.Stamp.{Stamp}
 use Rattle.warm_stamps.specs.declared.PageId.{PageId}
 use Rattle.warm_stamps.specs.declared.Reference.{Reference}
-use Rattle.warm_stamps.specs.Stamps.{stamp_cmp, page_cmp}
-use Rattle.warm_stamps.specs.Distinct.{distinct, IsAscending}
-use Rattle.warm_stamps.proofs.DistinctLemmas.{is_equal, distinct_swap}
-use Rattle.warm_stamps.proofs.StampLemmas.{stamp_order, page_order, IsStrictOrder-flip}
-use Rattle.warm_history.specs.declared.hist.PageHist.{PageHist}
-use Rattle.warm_history.specs.declared.hist.Entry.{Entry}
-use Rattle.warm_history.specs.ListHistories.{first_two, latest_of, list_hist, list_history, hist_stamps, known_stamps, references_of_entry, list_references_of, ListStandsFor, IsListHistory}
-use Rattle.warm_history.proofs.Lists.{front_two, front_two-first, front_two-second}
-use Rattle.warm_history.proofs.ListHistoryLemmas.{get, told, told-append, told_entry, held-first_two, first_two-front_two, get-history, IsHistory-history, same_gets}
+use Rattle.warm_stamps.specs.Stamps.{page_cmp}
+use Rattle.warm_stamps.specs.Distinct.{IsAscending}
+use Rattle.warm_stamps.proofs.DistinctLemmas.{is_equal}
+use Rattle.warm_stamps.proofs.StampLemmas.{page_order}
+use Rattle.warm_maps.specs.declared.hist.Entry.{Entry}
+use Rattle.warm_history.specs.ListHistories.{latest_of, list_hist, list_history, hist_stamps, known_stamps, references_of_entry, list_references_of, ListStandsFor, IsListHistory}
+use Rattle.warm_history.proofs.ListHistoryLemmas.{get, told, told-append, told_entry, get-history, IsHistory-history, same_gets}
 use Rattle.warm_history.proofs.ListJoinLemmas.{history_of_own_references}
-
--- a stamp more changes the two latest of others as it would with these alone; the others are a
--- stamp and the rest, as code that adds two has them
-pub latest_of_more : (last prev : Stamp) (ss : List Stamp) (r : PageHist)
-    → Some r ≡ latest_of (prev ∷ ss)
-    → latest_of (last ∷ hist_stamps r) ≡ latest_of (last ∷ prev ∷ ss)
-latest_of_more last prev ss r is =
-    let falls = flip_args stamp_cmp in
-    let order = IsStrictOrder-flip stamp_cmp stamp_order in
-    let held_is : hist_stamps r ≡ front_two (distinct falls (prev ∷ ss)) = ap known_stamps is ∙ held-first_two (distinct falls (prev ∷ ss)) in
-    ap (λ t. latest_of (last ∷ t)) held_is
-    ∙ sym (first_two-front_two (distinct falls (last ∷ front_two (distinct falls (prev ∷ ss)))))
-    ∙ ap first_two (sym (front_two-second falls order (last ∷ []) (prev ∷ ss)))
-    ∙ first_two-front_two (distinct falls (last ∷ prev ∷ ss))
-
--- ---- one reference more
-
--- what a list of stamps says beside others, its two latest say
-pub latest_of_first : (xs ys : List Stamp)
-    → latest_of (xs ++ ys) ≡ latest_of (known_stamps (latest_of xs) ++ ys)
-latest_of_first xs ys =
-    let falls = flip_args stamp_cmp in
-    let order = IsStrictOrder-flip stamp_cmp stamp_order in
-    sym (first_two-front_two (distinct falls (xs ++ ys)))
-    ∙ ap first_two (front_two-first falls order xs ys)
-    ∙ first_two-front_two (distinct falls (front_two (distinct falls xs) ++ ys))
-    ∙ ap (λ t. latest_of (t ++ ys)) (sym (held-first_two (distinct falls xs)))
-
-pub latest_of_swap : (xs ys : List Stamp) → latest_of (xs ++ ys) ≡ latest_of (ys ++ xs)
-latest_of_swap xs ys = ap first_two (distinct_swap (flip_args stamp_cmp) (IsStrictOrder-flip stamp_cmp stamp_order) xs ys)
+use Rattle.warm_maps.proofs.LatestLemmas.{latest_of_first, latest_of_swap}
 
 -- what is known of each page after an entry was added
 pub hist_entry : (S : List Reference) (e : Entry) (q : PageId)

@@ -3,12 +3,12 @@ use Rattle.std.proofs.Common.{◌≡◌, ℕ, [], ◌∷◌, Some, None, refl}
 use Rattle.warm_stamps.specs.declared.Stamp.{Stamp}
 use Rattle.warm_stamps.specs.declared.PageId.{PageId}
 use Rattle.warm_stamps.specs.declared.Reference.{Reference}
-use Rattle.warm_history.specs.declared.hist.PageHist.TheVariants.{Once, Twice}
-use Rattle.warm_history.specs.declared.hist.Entry.{Entry}
+use Rattle.warm_maps.specs.declared.hist.PageHist.TheVariants.{Once, Twice}
+use Rattle.warm_maps.specs.declared.hist.Entry.{Entry}
 use Rattle.warm_history.specs.ReferenceSets.{ReferenceSet, set_of_list, with_horizon}
 use Rattle.warm_history.specs.Histories.{history_of_entries, history_of_entries_at, history, join}
 use Rattle.warm_history.specs.Carried.{carried}
-use Rattle.warm_history.specs.maps.Walks.{merged}
+use Rattle.warm_maps.specs.Walks.{merged}
 use Rattle.warm_history.specs.Changes.{ChangesIn, SameInBucket}
 use Rattle.warm_history.specs.Losses.{KeepsIn, bucket_at_horizon}
 use Rattle.warm_history.specs.Since.{carried_since, entries_since}

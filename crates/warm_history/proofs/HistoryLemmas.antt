@@ -5,10 +5,10 @@ use Rattle.std.proofs.Math.Nat.{le-max_left, le-max_right, le_refl}
 use Rattle.warm_stamps.specs.declared.PageId.{PageId}
 use Rattle.warm_stamps.proofs.DistinctLemmas.{Has}
 use Rattle.warm_stamps.specs.declared.Reference.{Reference}
-use Rattle.warm_history.specs.declared.hist.PageHist.{PageHist}
-use Rattle.warm_history.specs.declared.hist.PageHist.TheVariants.{Once, Twice}
+use Rattle.warm_maps.specs.declared.hist.PageHist.{PageHist}
+use Rattle.warm_maps.specs.declared.hist.PageHist.TheVariants.{Once, Twice}
 use Rattle.std.proofs.lemmas.Bool.Decides.{nat_tests}
-use Rattle.warm_history.specs.declared.hist.Entry.{Entry}
+use Rattle.warm_maps.specs.declared.hist.Entry.{Entry}
 use Rattle.warm_history.specs.ReferenceSets.{ReferenceSet, references_from, references, ◌∪◌}
 use Rattle.warm_history.specs.ListHistories.{list_history, list_references_of, list_hist}
 use Rattle.warm_history.specs.Histories.{HistoryView, entries_of, hist, pages, history, references_of, IsHistory, IsKept}

@@ -2,7 +2,7 @@
 use Rattle.std.proofs.Common.{◌≡◌, ◌≤◌, ℕ, max, Bool, true, false, cond, List, [], ◌∷◌, ◌++◌, Some, None, refl, sym, ap, subst, ◌∙◌, arith}
 use Rattle.std.specs.Prelude.{◌==◌}
 use Rattle.warm_stamps.specs.Buckets.{page_bucket}
-use Rattle.warm_history.specs.declared.hist.Entry.{Entry}
+use Rattle.warm_maps.specs.declared.hist.Entry.{Entry}
 use Rattle.warm_history.specs.Carried.{bucket_entries}
 use Rattle.warm_history.specs.Histories.{HistoryView, IsHistory, IsKept, NoneOlder, entries_of, history, references_of}
 use Rattle.warm_history.specs.KeptEntries.{is_recent, shortened, shortened_entry, kept_entries}

@@ -5,7 +5,7 @@ use Rattle.std.proofs.Math.Nat.{max_comm, le_refl, max-eq_left}
 use Rattle.warm_stamps.specs.declared.PageId.{PageId}
 use Rattle.warm_history.specs.ReferenceSets.{ReferenceSet, references_from, references, with_horizon, ◌∪◌}
 use Rattle.warm_history.specs.ListHistories.{list_history, list_references_of, list_hist}
-use Rattle.warm_history.specs.declared.hist.Entry.{Entry}
+use Rattle.warm_maps.specs.declared.hist.Entry.{Entry}
 use Rattle.warm_history.specs.Histories.{HistoryView, IsHistory, entries_of, history, hist, references_of}
 use Rattle.warm_history.specs.Laws.{HistoryOfUnion, HistoryOfOwnReferences, JoinCommutes, JoinAssociates, JoinRepeats, JoinIsLeast, TakingInMovesUp}
 use Rattle.warm_history.proofs.KeptLemmas.{kept_alike}

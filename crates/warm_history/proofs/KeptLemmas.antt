@@ -13,9 +13,9 @@ use Rattle.warm_stamps.specs.Stamps.{stamp_cmp, page_cmp}
 use Rattle.warm_stamps.specs.Distinct.{distinct, IsAscending}
 use Rattle.warm_stamps.proofs.DistinctLemmas.{Has, IsStrictOrder, by_cases, distinct_same, distinct_rising, distinct_rises, has_distinct, has_from_distinct, rising_filter}
 use Rattle.warm_stamps.proofs.StampLemmas.{stamp_order, page_order, IsStrictOrder-flip}
-use Rattle.warm_history.specs.declared.hist.PageHist.{PageHist}
-use Rattle.warm_history.specs.declared.hist.PageHist.TheVariants.{Once, Twice}
-use Rattle.warm_history.specs.declared.hist.Entry.{Entry}
+use Rattle.warm_maps.specs.declared.hist.PageHist.{PageHist}
+use Rattle.warm_maps.specs.declared.hist.PageHist.TheVariants.{Once, Twice}
+use Rattle.warm_maps.specs.declared.hist.Entry.{Entry}
 use Rattle.warm_history.specs.ReferenceSets.{is_kept, references_from}
 use Rattle.warm_history.specs.KeptEntries.{is_recent, shortened, shortened_entry, kept_hist, kept_entries}
 use Rattle.warm_history.specs.ListHistories.{first_two, list_hist, list_stamps, list_pages, list_history, references_of_entry, hist_stamps, list_references_of}

@@ -1,7 +1,6 @@
 pub mod Examples
 pub mod CarriedLemmas
 pub mod SinceLemmas
-pub mod Lists
 pub mod ListHistoryLemmas
 pub mod ListJoinLemmas
 pub mod ListCarriedLemmas

@@ -9,8 +9,8 @@ use Rattle.warm_stamps.specs.Stamps.{stamp_cmp, page_cmp}
 use Rattle.warm_stamps.specs.Distinct.{distinct, IsAscending}
 use Rattle.warm_stamps.proofs.DistinctLemmas.{is_equal, distinct_rises, rising_filter, rising_take, all_filter, all_of_has}
 use Rattle.warm_stamps.proofs.StampLemmas.{page_order}
-use Rattle.warm_history.specs.declared.hist.PageHist.{PageHist}
-use Rattle.warm_history.specs.declared.hist.Entry.{Entry}
+use Rattle.warm_maps.specs.declared.hist.PageHist.{PageHist}
+use Rattle.warm_maps.specs.declared.hist.Entry.{Entry}
 use Rattle.warm_history.specs.ListHistories.{list_references_to, first_two, list_hist, list_pages, list_history}
 use Rattle.warm_history.specs.Carried.{is_next_in_bucket}
 use Rattle.warm_history.proofs.ListHistoryLemmas.{named, entries, get_entries, rising_entries, has_named, named-some, named-distinct, get-history, IsHistory-history, same_gets}

@@ -16,11 +16,12 @@ use Rattle.warm_stamps.specs.Stamps.{stamp_cmp, page_cmp}
 use Rattle.warm_stamps.specs.Distinct.{insert_distinct, distinct, IsAscending}
 use Rattle.warm_stamps.proofs.DistinctLemmas.{is_equal, Has, by_cases, flipped, distinct_same, distinct_swap, distinct_rises}
 use Rattle.warm_stamps.proofs.StampLemmas.{stamp_order, page_order, IsStrictOrder-flip}
-use Rattle.warm_history.specs.declared.hist.PageHist.{PageHist}
-use Rattle.warm_history.specs.declared.hist.PageHist.TheVariants.{Once, Twice}
-use Rattle.warm_history.specs.declared.hist.Entry.{Entry}
+use Rattle.warm_maps.specs.declared.hist.PageHist.{PageHist}
+use Rattle.warm_maps.specs.declared.hist.PageHist.TheVariants.{Once, Twice}
+use Rattle.warm_maps.specs.declared.hist.Entry.{Entry}
 use Rattle.warm_history.specs.ListHistories.{list_references_to, list_stamps, first_two, list_hist, list_pages, list_history, hist_stamps, known_stamps, references_of_entry, list_references_of, IsDescending, IsListHistory}
-use Rattle.warm_history.proofs.Lists.{front_two, front_two-both}
+use Rattle.warm_maps.proofs.Lists.{front_two, front_two-both}
+use Rattle.warm_maps.proofs.LatestLemmas.{IsFallingIfAny, falling_first_two, first_two-front_two, held-first_two}
 
 -- the latest stamps that a list of entries holds of the page p
 abbrev pub get : List Entry → PageId → Option PageHist
@@ -130,17 +131,6 @@ rising_entries f (q ∷ qs) rising = elim (f q) as (λ x. IsAscending (on (λ e.
   | None ↦ rising_entries f qs rising.1
   | Some h ↦ (below_entries f q qs rising.0, rising_entries f qs rising.1)
 ]
-
--- the stamps of a page's history fall, if it has one
-abbrev pub IsFallingIfAny : Option PageHist → Type 0
-IsFallingIfAny None = Unit {0}
-IsFallingIfAny (Some h) = IsDescending h
-
-pub falling_first_two : (ss : List Stamp) → IsAscending (flip_args stamp_cmp) ss
-    → IsFallingIfAny (first_two ss)
-falling_first_two [] rising = tt
-falling_first_two (a ∷ []) rising = tt
-falling_first_two (a ∷ b ∷ ss) rising = rising.0.0
 
 falling_entries : (f : PageId → Option PageHist) → ((p : PageId) → IsFallingIfAny (f p))
     → (ps : List PageId) → AllByRecursion (λ e. IsDescending e.hist) (entries f ps)
@@ -266,16 +256,6 @@ hist-refs h whole p =
 -- what two lists say of a page together follows from what each says
 abbrev pub joined : Option PageHist → Option PageHist → Option PageHist
 joined a b = first_two (distinct (flip_args stamp_cmp) (known_stamps a ++ known_stamps b))
-
-pub held-first_two : (ss : List Stamp) → known_stamps (first_two ss) ≡ front_two ss
-held-first_two [] = refl
-held-first_two (a ∷ []) = refl
-held-first_two (a ∷ b ∷ ss) = refl
-
-pub first_two-front_two : (ss : List Stamp) → first_two (front_two ss) ≡ first_two ss
-first_two-front_two [] = refl
-first_two-front_two (a ∷ []) = refl
-first_two-front_two (a ∷ b ∷ ss) = refl
 
 pub hist-append : (S T : List Reference) (p : PageId)
     → list_hist (S ++ T) p ≡ joined (list_hist S p) (list_hist T p)

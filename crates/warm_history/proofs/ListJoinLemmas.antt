@@ -8,7 +8,7 @@ use Rattle.warm_stamps.specs.Stamps.{stamp_cmp}
 use Rattle.warm_stamps.proofs.DistinctLemmas.{distinct_absorbs}
 use Rattle.warm_stamps.proofs.StampLemmas.{stamp_order, IsStrictOrder-flip}
 use Rattle.warm_history.specs.ListHistories.{list_history, list_hist, first_two, list_references_of, list_join, IsListHistory}
-use Rattle.warm_history.specs.declared.hist.Entry.{Entry}
+use Rattle.warm_maps.specs.declared.hist.Entry.{Entry}
 use Rattle.warm_history.proofs.ListHistoryLemmas.{told, told-append, same_gets, same_hists, joined, hist-append, hist_swap, hist-refs, hist_refs-history, get-history, IsHistory-history}
 
 -- what a list says of each page decides what it says beside another list

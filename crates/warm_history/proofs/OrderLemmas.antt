@@ -10,9 +10,9 @@ use Rattle.warm_stamps.specs.declared.PageId.{PageId}
 use Rattle.warm_stamps.specs.Stamps.{page_cmp}
 use Rattle.warm_stamps.proofs.DistinctLemmas.{is_equal, by_cases, flipped}
 use Rattle.warm_stamps.proofs.StampLemmas.{page_order}
-use Rattle.warm_history.specs.declared.hist.Entry.{Entry}
+use Rattle.warm_maps.specs.declared.hist.Entry.{Entry}
 use Rattle.warm_history.specs.ListHistories.{IsDescending, PagesAscend, IsListHistory}
-use Rattle.warm_history.specs.maps.MapPairs.{put_in, in_page_order}
+use Rattle.warm_history.specs.maps.KeptPairs.{put_in, in_page_order}
 use Rattle.warm_history.proofs.ListHistoryLemmas.{get, either_way, AllAbove, above_less}
 
 -- two pages that both equal a third are equal

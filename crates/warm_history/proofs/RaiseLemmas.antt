@@ -3,16 +3,17 @@ use Rattle.std.proofs.Common.{◌≡◌, ℕ, List, [], ◌++◌, max, sym, ap, 
 use Rattle.std.proofs.lemmas.List.{append-nil}
 use Rattle.std.proofs.Math.Nat.{max-zero, le_refl}
 use Rattle.warm_stamps.specs.declared.Reference.{Reference}
-use Rattle.warm_history.specs.declared.hist.Entry.{Entry}
+use Rattle.warm_maps.specs.declared.hist.Entry.{Entry}
 use Rattle.warm_history.specs.ReferenceSets.{ReferenceSet, references_from, set_of_list, with_horizon, ◌∪◌}
 use Rattle.warm_history.specs.KeptEntries.{kept_entries}
 use Rattle.warm_history.specs.ListHistories.{list_history, list_references_of}
 use Rattle.warm_history.specs.Histories.{entries_of, history_of_entries_at, history, references_of, IsHistory, NoneOlder}
-use Rattle.warm_history.specs.maps.MapPairs.{MapPairs, kept, AreKept}
+use Rattle.warm_maps.specs.MapPairs.{MapPairs, AreKept}
+use Rattle.warm_history.specs.maps.KeptPairs.{kept}
 use Rattle.warm_history.proofs.KeptLemmas.{history-kept, kept-append, kept_within, kept_after, kept_refs}
 use Rattle.warm_history.proofs.ListJoinLemmas as join_list
 use Rattle.warm_history.proofs.HistoryLemmas.{history-is, IsHistory-history, entries-history}
-use Rattle.warm_history.proofs.maps.MapPairLemmas.{IsHistory-kept}
+use Rattle.warm_history.proofs.maps.KeptPairLemmas.{IsHistory-kept}
 
 -- what pairs keep, none of it older than the horizon, is a history
 pub whole_of : (m : ℕ) (pairs : MapPairs) → AreKept pairs → NoneOlder m (kept pairs)

@@ -16,9 +16,9 @@ use Rattle.warm_stamps.specs.Distinct.{distinct}
 use Rattle.warm_stamps.specs.Stamps.{stamp_cmp, page_cmp}
 use Rattle.warm_stamps.proofs.DistinctLemmas.{Has, flipped, has_from_distinct, rising_filter}
 use Rattle.warm_stamps.proofs.StampLemmas.{stamp_order, page_order, IsStrictOrder-flip}
-use Rattle.warm_history.specs.declared.hist.PageHist.{PageHist}
-use Rattle.warm_history.specs.declared.hist.PageHist.TheVariants.{Once, Twice}
-use Rattle.warm_history.specs.declared.hist.Entry.{Entry}
+use Rattle.warm_maps.specs.declared.hist.PageHist.{PageHist}
+use Rattle.warm_maps.specs.declared.hist.PageHist.TheVariants.{Once, Twice}
+use Rattle.warm_maps.specs.declared.hist.Entry.{Entry}
 use Rattle.warm_history.specs.Carried.{after_page, comes_after, is_next_in_bucket, later_of_bucket}
 use Rattle.warm_history.specs.Histories.{entries_of, history, history_of_entries_at, references_of}
 use Rattle.warm_history.specs.KeptEntries.{is_recent}

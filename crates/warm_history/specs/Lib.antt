@@ -7,6 +7,7 @@ pub mod Changes
 pub mod Losses
 pub mod Laws
 pub mod References
-pub mod LatestTwo
 pub mod Since
 pub mod maps
+pub use Rattle.warm_maps.specs.declared.hist.Entry
+pub use Rattle.warm_maps.specs.declared.hist.PageHist

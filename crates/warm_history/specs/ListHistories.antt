@@ -1,18 +1,18 @@
 -- The history of a list of references, without a horizon: the definitions of `Histories` build on
 -- these.
-use Rattle.std.specs.Prelude.{◌≡◌, List, [], ◌∷◌, ◌++◌, map, filter, Option, Some, None}
+use Rattle.std.specs.Prelude.{◌≡◌, List, [], ◌∷◌, ◌++◌, map, filter, Option}
 use Rattle.std.specs.List.{AllByRecursion, filter_map}
 use Rattle.std.specs.Option.{option_map}
 use Rattle.std.specs.Ordering.{is_eq, on, flip_args}
-use Rattle.std.specs.declared.cmp.Ordering.TheVariants.{Less}
 use Rattle.warm_stamps.specs.declared.Stamp.{Stamp}
 use Rattle.warm_stamps.specs.declared.PageId.{PageId}
 use Rattle.warm_stamps.specs.declared.Reference.{Reference}
 use Rattle.warm_stamps.specs.Stamps.{stamp_cmp, page_cmp}
 use Rattle.warm_stamps.specs.Distinct.{distinct, IsAscending}
-use Rattle.warm_history.specs.declared.hist.PageHist.{PageHist}
-use Rattle.warm_history.specs.declared.hist.PageHist.TheVariants.{Once, Twice}
-use Rattle.warm_history.specs.declared.hist.Entry.{Entry}
+use Rattle.warm_maps.specs.declared.hist.PageHist.{PageHist}
+use Rattle.warm_maps.specs.declared.hist.Entry.{Entry}
+pub use Rattle.warm_maps.specs.PageHists.{first_two, latest_of, hist_stamps, known_stamps}
+pub use Rattle.warm_maps.specs.PageHists.{IsDescending}
 
 -- the references of S to the page p
 abbrev pub list_references_to : List Reference → PageId → List Reference
@@ -21,16 +21,6 @@ list_references_to S p = filter (λ r. is_eq (page_cmp r.page p)) S
 -- the distinct stamps of the page p in S, greatest first
 abbrev pub list_stamps : List Reference → PageId → List Stamp
 list_stamps S p = distinct (flip_args stamp_cmp) (map (λ r. r.stamp) (list_references_to S p))
-
--- the first two of falling stamps, or the only one
-abbrev pub first_two : List Stamp → Option PageHist
-first_two [] = None
-first_two (last ∷ []) = Some (Once last)
-first_two (last ∷ prev ∷ older) = Some (Twice (record { last = last; prev = prev }))
-
--- the two latest of a list of stamps
-abbrev pub latest_of : List Stamp → Option PageHist
-latest_of ss = first_two (distinct (flip_args stamp_cmp) ss)
 
 -- the two latest stamps of the page p in S
 abbrev pub list_hist : List Reference → PageId → Option PageHist
@@ -48,16 +38,6 @@ list_entry_of S p = option_map (λ h. record { page = p; hist = h }) (list_hist 
 unfoldable pub list_history : List Reference → List Entry
 list_history S = filter_map (list_entry_of S) (list_pages S)
 
--- the stamps that a page's history holds, the later one first
-abbrev pub hist_stamps : PageHist → List Stamp
-hist_stamps (Once last) = last ∷ []
-hist_stamps (Twice two) = two.last ∷ two.prev ∷ []
-
--- the stamps held of a page, none if it has no history
-abbrev pub known_stamps : Option PageHist → List Stamp
-known_stamps None = []
-known_stamps (Some h) = hist_stamps h
-
 -- the references that an entry holds
 abbrev pub references_of_entry : Entry → List Reference
 references_of_entry e = map (λ s. record { page = e.page; stamp = s }) (hist_stamps e.hist)
@@ -66,11 +46,6 @@ references_of_entry e = map (λ s. record { page = e.page; stamp = s }) (hist_st
 abbrev pub list_references_of : List Entry → List Reference
 list_references_of [] = []
 list_references_of (e ∷ h) = references_of_entry e ++ list_references_of h
-
--- the stamps of a page's history fall
-abbrev pub IsDescending : PageHist → Type 0
-IsDescending (Once last) = Unit {0}
-IsDescending (Twice two) = stamp_cmp two.prev two.last ≡ Less
 
 -- the pages of entries rise
 abbrev pub PagesAscend : List Entry → Type 0

@@ -1,6 +1,6 @@
 -- What a history would lose at a horizon.
 use Rattle.std.specs.Prelude.{ℕ, List}
-use Rattle.warm_history.specs.declared.hist.Entry.{Entry}
+use Rattle.warm_maps.specs.declared.hist.Entry.{Entry}
 use Rattle.warm_history.specs.Carried.{bucket_entries}
 use Rattle.warm_history.specs.Changes.{ChangesIn, SameInBucket, MarksChanged}
 use Rattle.warm_history.specs.Histories.{HistoryView, entries_of, history, references_of}

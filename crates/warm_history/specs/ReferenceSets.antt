@@ -1,7 +1,7 @@
 -- Kept references: those of a list that aren't older than a horizon, read as a set.
-use Rattle.std.specs.Prelude.{ℕ, Bool, List, ◌++◌, [], filter, max, nat_le}
-use Rattle.warm_stamps.specs.declared.Stamp.{Stamp}
+use Rattle.std.specs.Prelude.{ℕ, Bool, List, ◌++◌, [], filter, max}
 use Rattle.warm_stamps.specs.declared.Reference.{Reference}
+pub use Rattle.warm_maps.specs.PageHists.{is_kept}
 
 -- binds tighter than ◌≡◌, as ◌++◌ does
 infixr 60 ◌∪◌
@@ -9,10 +9,6 @@ infixr 60 ◌∪◌
 pub record ReferenceSet : Type 0 where
   pub horizon : ℕ
   pub given : List Reference
-
--- the stamp isn't older than the horizon
-abbrev pub is_kept : ℕ → Stamp → Bool
-is_kept horizon s = nat_le horizon s.time
 
 -- the references of a list that aren't older than the horizon
 abbrev pub references_from : ℕ → List Reference → List Reference

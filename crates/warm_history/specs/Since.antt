@@ -6,8 +6,8 @@ use Rattle.std.specs.Ordering.{is_eq}
 use Rattle.warm_stamps.specs.declared.PageId.{PageId}
 use Rattle.warm_stamps.specs.declared.Reference.{Reference}
 use Rattle.warm_stamps.specs.Stamps.{page_cmp}
-use Rattle.warm_history.specs.declared.hist.PageHist.{PageHist}
-use Rattle.warm_history.specs.declared.hist.Entry.{Entry}
+use Rattle.warm_maps.specs.declared.hist.PageHist.{PageHist}
+use Rattle.warm_maps.specs.declared.hist.Entry.{Entry}
 use Rattle.warm_history.specs.Carried.{is_next_in_bucket, later_of_bucket}
 use Rattle.warm_history.specs.Histories.{HistoryView, IsHistory, StandsFor, entries_of, hist}
 use Rattle.warm_history.specs.Histories.{history, history_of_entries_at, pages, references_of}

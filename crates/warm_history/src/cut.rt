@@ -2,14 +2,14 @@
 //! are skipped as they are read; and the buckets that it would change. The history is unchanged.
 ghost use Rattle.std.specs.Prelude.{◌≡◌, ◌↔◌, IfOk, IsTrue};
 ghost use Rattle.std.specs.Iterator.{YieldsFirst};
-ghost use Rattle.warm_history.specs.Histories.{NoneOlder, entries_of};
-ghost use Rattle.warm_history.specs.KeptEntries.{kept_entries};
+ghost use Rattle.warm_history.specs.Histories.{IsKept, NoneOlder, entries_of};
+ghost use Rattle.warm_history.specs.KeptEntries.{kept_entries, kept_hist};
 ghost use Rattle.warm_history.specs.Losses.{MarksLosing, raised};
 
-use crate::hist::Entry;
 use crate::history::{BucketEntries, History};
 use std::alloc::{AllocError, Global};
 use std::marker::Model;
+use warm_maps::{Entry, PageHist, Two};
 use warm_stamps::{Bucket, BucketSet};
 
 /// Iterates over the entries of a bucket after a cut at a horizon, in rising page order: each entry
@@ -25,7 +25,7 @@ pub struct CutEntries<'a> {
 
 impl<'a> Model for CutEntries<'a> {
     ghost use Rattle.std.specs.Prelude.{List};
-    ghost use Rattle.warm_history.specs.declared.hist.Entry.{Entry};
+    ghost use Rattle.warm_maps.specs.declared.hist.Entry.{Entry};
     ghost use Rattle.warm_history.specs.KeptEntries.{kept_entries};
 
     ghost Value = { List Entry };
@@ -68,13 +68,43 @@ fn next_cut(ahead: &mut BucketEntries<'_>, horizon: u64) -> Option<Entry>
 {
     loop {
         let entry = ahead.next()?;
-        if let Some(hist) = entry.hist.cut_before(horizon) {
+        if let Some(hist) = cut_before(entry.hist, horizon) {
             return Some(Entry {
                 page: entry.page,
                 hist,
             });
         }
     }
+}
+
+// These stamps without those older than the horizon, if any is left.
+fn cut_before(hist: PageHist, horizon: u64) -> Option<PageHist>
+    ensures { result ≡ kept_hist horizon hist }
+{
+    match hist {
+        PageHist::Once(last) => {
+            if last.time < horizon {
+                return None;
+            }
+            Some(PageHist::Once(last))
+        }
+        PageHist::Twice(two) => cut_both(two, horizon),
+    }
+}
+
+// Both stamps without those older than the horizon, if any is left.
+fn cut_both(two: Two, horizon: u64) -> Option<PageHist>
+    ensures { result ≡ kept_hist horizon (PageHist.Twice two) }
+{
+    let last = two.last();
+    let prev = two.prev();
+    if last.time < horizon {
+        return None;
+    }
+    if prev.time < horizon {
+        return Some(PageHist::Once(last));
+    }
+    Some(PageHist::Twice(two))
 }
 
 // These entries as a list; room for `count` of them is allocated first.
@@ -99,11 +129,21 @@ pub(crate) fn none_older(entries: BucketEntries<'_>, horizon: u64) -> bool
     ensures { IsTrue result ↔ NoneOlder horizon entries.entry }
 {
     for entry in entries {
-        if !entry.hist.none_before(horizon) {
+        if !none_before(entry.hist, horizon) {
             return false;
         }
     }
     true
+}
+
+// Whether none of these stamps is before the horizon: the second latest stamp is the older one.
+fn none_before(hist: PageHist, horizon: u64) -> bool
+    ensures { IsTrue result ↔ IsKept horizon hist }
+{
+    match hist {
+        PageHist::Once(last) => horizon <= last.time,
+        PageHist::Twice(two) => horizon <= two.prev().time,
+    }
 }
 
 // The buckets whose entries would change at the horizon.

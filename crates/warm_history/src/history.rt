@@ -12,15 +12,13 @@ ghost use Rattle.warm_history.specs.Changes.{MarksChanged};
 ghost use Rattle.warm_history.specs.Since.{AreCarriedSince, entries_since};
 
 use crate::cut::{CutEntries, listed, losing, none_older};
-use crate::hist::{Entry, PageHist};
-use crate::maps::bucket_map::{self, BucketPairs};
-use crate::maps::bucket_maps::{BucketMaps, EachEntry};
 use crate::maps::merge_iter::{MergedEntries, Source, later_pairs, merged_entries};
-use crate::maps::take_in::{lookup, raise, take_entries, take_pairs, take_references};
+use crate::maps::take_in::{raise, take_entries, take_pairs, take_references};
 use crate::since::{Portion, portion_since};
 use std::alloc::{AllocError, Global};
 use std::fmt;
 use std::marker::Model;
+use warm_maps::{BucketMaps, BucketPairs, EachEntry, Entry, PageHist, entry_of};
 use warm_stamps::{Bucket, BucketSet, PageId, Reference};
 
 /// The two latest stamps of every page that was referenced.
@@ -56,7 +54,8 @@ impl Drop for History {
 
 impl Model for History {
     ghost use Rattle.warm_history.specs.Histories.{HistoryView, history_of_entries_at, NoneOlder};
-    ghost use Rattle.warm_history.specs.maps.MapPairs.{kept, AreKept};
+    ghost use Rattle.warm_history.specs.maps.KeptPairs.{kept};
+    ghost use Rattle.warm_maps.specs.MapPairs.{AreKept};
 
     ghost Value = { HistoryView };
 
@@ -208,7 +207,7 @@ impl History {
     pub fn get(&self, page: PageId) -> Option<PageHist>
         ensures { (S : ReferenceSet) → StandsFor self.now S → result ≡ hist S page }
     {
-        lookup(&self.maps, page)
+        self.maps.lookup(page)
     }
 
     /// Takes in references, in any order; any of them may be known already. Returns the
@@ -383,7 +382,7 @@ impl fmt::Debug for Entries<'_> {
 
 impl<'a> Model for Entries<'a> {
     ghost use Rattle.std.specs.Prelude.{List};
-    ghost use Rattle.warm_history.specs.declared.hist.Entry.{Entry};
+    ghost use Rattle.warm_maps.specs.declared.hist.Entry.{Entry};
     ghost use Rattle.warm_history.specs.maps.Merges.{all_left};
 
     ghost Value = { List Entry };
@@ -401,7 +400,7 @@ impl<'a> Iterator for Entries<'a> {
     ghost remaining = { item_count (λ entries. entries) };
 
     fn next(&mut self) -> Option<Entry> {
-        bucket_map::entry_of(self.left.take_first())
+        entry_of(self.left.take_first())
     }
 }
 
@@ -415,8 +414,8 @@ pub struct BucketEntries<'a> {
 
 impl<'a> Model for BucketEntries<'a> {
     ghost use Rattle.std.specs.Prelude.{List};
-    ghost use Rattle.warm_history.specs.declared.hist.Entry.{Entry};
-    ghost use Rattle.warm_history.specs.maps.MapPairs.{as_entries};
+    ghost use Rattle.warm_maps.specs.declared.hist.Entry.{Entry};
+    ghost use Rattle.warm_maps.specs.MapPairs.{as_entries};
 
     ghost Value = { List Entry };
 
@@ -448,7 +447,7 @@ pub struct Unordered<'a> {
 
 impl<'a> Model for Unordered<'a> {
     ghost use Rattle.std.specs.Prelude.{List};
-    ghost use Rattle.warm_history.specs.declared.hist.Entry.{Entry};
+    ghost use Rattle.warm_maps.specs.declared.hist.Entry.{Entry};
 
     ghost Value = { List Entry };
 
@@ -479,5 +478,5 @@ fn first_entries(
     ensures { IfOk result (λ es. es.items ≡ take limit entries.entry) }
 {
     let BucketEntries { left } = entries;
-    bucket_map::first_entries(alloc, left, limit)
+    warm_maps::first_entries(alloc, left, limit)
 }

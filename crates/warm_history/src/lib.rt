@@ -11,13 +11,14 @@
 #![tactic(auto)]
 
 mod cut;
-mod hist;
 mod history;
 pub mod laws;
 mod maps;
 mod since;
+mod sorted;
 
 pub use cut::CutEntries;
-pub use hist::{Entry, PageHist, Two, is_sorted_by_page, join_hist};
 pub use history::{BucketEntries, Entries, History, Unordered};
 pub use since::Portion;
+pub use sorted::is_sorted_by_page;
+pub use warm_maps::{Entry, PageHist, Two, join_hist};

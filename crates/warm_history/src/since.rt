@@ -4,9 +4,9 @@ ghost use Rattle.std.specs.Iterator.{YieldsFirst};
 ghost use Rattle.warm_history.specs.KeptEntries.{is_recent};
 ghost use Rattle.warm_history.specs.Since.{recent_entries};
 
-use crate::hist::{Entry, PageHist};
 use crate::history::BucketEntries;
 use std::alloc::{AllocError, Global};
+use warm_maps::{Entry, PageHist};
 
 /// The first of some entries, and whether more of them follow. If more follow, the page of the last
 /// entry is the one after which to go on.

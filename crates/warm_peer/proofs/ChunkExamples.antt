@@ -3,8 +3,8 @@ use Rattle.std.proofs.Common.{◌≡◌, ℕ, [], ◌∷◌, None, Some, refl}
 use Rattle.warm_stamps.specs.declared.PageId.{PageId}
 use Rattle.warm_stamps.specs.declared.Stamp.{Stamp}
 use Rattle.warm_stamps.specs.declared.Reference.{Reference}
-use Rattle.warm_history.specs.declared.hist.Entry.{Entry}
-use Rattle.warm_history.specs.declared.hist.PageHist.TheVariants.{Once, Twice}
+use Rattle.warm_history.specs.Entry.{Entry}
+use Rattle.warm_history.specs.PageHist.TheVariants.{Once, Twice}
 use Rattle.warm_history.specs.ReferenceSets.{ReferenceSet, set_of_list}
 use Rattle.warm_history.specs.Histories.{entries_of, history}
 use Rattle.warm_history.specs.Carried.{bucket_entries}

@@ -15,7 +15,7 @@ use Rattle.warm_stamps.specs.Buckets.{page_bucket}
 use Rattle.warm_stamps.specs.Stamps.{page_cmp}
 use Rattle.warm_stamps.proofs.DistinctLemmas.{flipped, all_take, rising_filter}
 use Rattle.warm_stamps.proofs.StampLemmas.{page_order}
-use Rattle.warm_history.specs.declared.hist.Entry.{Entry}
+use Rattle.warm_history.specs.Entry.{Entry}
 use Rattle.warm_history.specs.ReferenceSets.{ReferenceSet}
 use Rattle.warm_history.specs.Histories.{entries_of, history, PagesAscend}
 use Rattle.warm_history.specs.Carried.{bucket_entries, comes_after, is_next_in_bucket}

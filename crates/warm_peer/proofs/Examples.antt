@@ -1,8 +1,8 @@
 -- Worked examples: chunks of lists, wanted buckets, and the history after a message, computed.
 use Rattle.std.proofs.Common.{◌≡◌, ℕ, [], ◌∷◌, None, refl}
 use Rattle.warm_stamps.specs.declared.Stamp.{Stamp}
-use Rattle.warm_history.specs.declared.hist.Entry.{Entry}
-use Rattle.warm_history.specs.declared.hist.PageHist.TheVariants.{Once, Twice}
+use Rattle.warm_history.specs.Entry.{Entry}
+use Rattle.warm_history.specs.PageHist.TheVariants.{Once, Twice}
 use Rattle.warm_history.specs.Histories.{history_of_entries, history_of_entries_at, history}
 use Rattle.warm_frames.specs.declared.message.Message.TheVariants.{Entries, Want}
 use Rattle.warm_frames.specs.Chunks.{chunks}

@@ -1,8 +1,8 @@
 -- Worked examples: a round between two replicas that know one page each, computed from the request
 -- on.
 use Rattle.std.proofs.Common.{◌≡◌, [], ◌∷◌, ◌++◌, List, refl}
-use Rattle.warm_history.specs.declared.hist.Entry.{Entry}
-use Rattle.warm_history.specs.declared.hist.PageHist.TheVariants.{Once}
+use Rattle.warm_history.specs.Entry.{Entry}
+use Rattle.warm_history.specs.PageHist.TheVariants.{Once}
 use Rattle.warm_history.specs.Histories.{HistoryView, history_of_entries, history_of_entries_at, history, join}
 use Rattle.warm_frames.specs.declared.message.Message.{Message}
 use Rattle.warm_frames.specs.declared.message.Message.TheVariants.{Entries, Want}

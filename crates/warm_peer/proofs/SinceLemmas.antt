@@ -1,7 +1,7 @@
 -- What a message of the entries since a time brings.
 use Rattle.std.proofs.Common.{◌≡◌, ℕ, List, take, Option, subst}
 use Rattle.warm_stamps.specs.declared.PageId.{PageId}
-use Rattle.warm_history.specs.declared.hist.Entry.{Entry}
+use Rattle.warm_history.specs.Entry.{Entry}
 use Rattle.warm_history.specs.Histories.{HistoryView, entries_of}
 use Rattle.warm_history.specs.ListHistories.{list_references_of}
 use Rattle.warm_history.specs.References.{IsIn}

@@ -19,7 +19,7 @@ use Rattle.warm_stamps.specs.Distinct.{distinct, IsAscending}
 use Rattle.warm_stamps.proofs.DistinctLemmas.{IsStrictOrder, Has, distinct_rising, distinct_same, is_equal}
 use Rattle.warm_stamps.proofs.StampLemmas.{page_order, IsStrictOrder-flip}
 use Rattle.warm_history.specs.ReferenceSets.{ReferenceSet}
-use Rattle.warm_history.specs.declared.hist.PageHist.{PageHist}
+use Rattle.warm_history.specs.PageHist.{PageHist}
 use Rattle.warm_history.specs.Histories.{HistoryView, IsHistory, StandsFor, hist, references_of}
 use Rattle.warm_history.proofs.JoinLemmas.{history_of_own_references}
 use Rattle.warm_rank.specs.declared.RankKey.{RankKey}

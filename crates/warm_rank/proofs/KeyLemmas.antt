@@ -13,8 +13,8 @@ use Rattle.warm_stamps.specs.Stamps.{stamp_cmp, page_cmp}
 use Rattle.warm_stamps.proofs.DistinctLemmas.{IsStrictOrder, Has}
 use Rattle.warm_stamps.proofs.StampLemmas.{both_tie, stamp_order, page_order}
 use Rattle.warm_history.specs.ReferenceSets.{ReferenceSet}
-use Rattle.warm_history.specs.declared.hist.PageHist.{PageHist}
-use Rattle.warm_history.specs.declared.hist.PageHist.TheVariants as page
+use Rattle.warm_history.specs.PageHist.{PageHist}
+use Rattle.warm_history.specs.PageHist.TheVariants as page
 use Rattle.warm_history.specs.Histories.{first_two, stamps, hist}
 use Rattle.warm_rank.specs.declared.RankKey.{RankKey}
 use Rattle.warm_rank.specs.declared.RankKey.TheVariants.{Never, Once, Twice}

@@ -21,8 +21,8 @@ use Rattle.warm_stamps.specs.Distinct.{distinct, IsAscending}
 use Rattle.warm_stamps.proofs.DistinctLemmas.{IsStrictOrder, Has, by_cases, flipped, distinct_rises, has_distinct, has_from_distinct, rising_take}
 use Rattle.warm_stamps.proofs.StampLemmas.{page_order, IsStrictOrder-flip}
 use Rattle.warm_history.specs.ReferenceSets.{ReferenceSet, references}
-use Rattle.warm_history.specs.declared.hist.PageHist.{PageHist}
-use Rattle.warm_history.specs.declared.hist.PageHist.TheVariants as page
+use Rattle.warm_history.specs.PageHist.{PageHist}
+use Rattle.warm_history.specs.PageHist.TheVariants as page
 use Rattle.warm_history.specs.Histories.{hist, history, pages}
 use Rattle.warm_history.proofs.HistoryLemmas.{some_named}
 use Rattle.warm_history.proofs.ListHistoryLemmas.{named, named-some}

@@ -16,7 +16,7 @@ use Rattle.warm_stamps.specs.Distinct.{insert_distinct, distinct, IsAscending}
 use Rattle.warm_stamps.proofs.DistinctLemmas.{Has, by_cases, distinct_rises, has_from_distinct}
 use Rattle.warm_stamps.proofs.StampLemmas.{page_order}
 use Rattle.warm_history.specs.ReferenceSets.{ReferenceSet, references}
-use Rattle.warm_history.specs.declared.hist.PageHist.{PageHist}
+use Rattle.warm_history.specs.PageHist.{PageHist}
 use Rattle.warm_history.specs.Histories.{hist, pages, history}
 use Rattle.warm_history.proofs.HistoryLemmas.{some_named}
 use Rattle.warm_rank.specs.declared.RankKey.{RankKey}

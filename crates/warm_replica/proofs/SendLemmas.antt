@@ -16,7 +16,7 @@ use Rattle.crossbeam_channel.specs.contracts.state.State as State
 use Rattle.warm_refbuffer.specs.contracts.RefBuffer as RefBuffer
 use Rattle.warm_gossip.specs.contracts.call.Call as Call
 use Rattle.warm_gossip.specs.contracts.call.Reply as Reply
-use Rattle.warm_history.specs.contracts.hist.Entry as Entry
+use Rattle.warm_maps.specs.contracts.hist.Entry as Entry
 use Rattle.warm_frames.specs.contracts.entries.EntryList as EntryList
 use Rattle.warm_frames.specs.contracts.entries.EntryList.TheInside as EntryListInside
 use Rattle.warm_frames.specs.contracts.message.Message as Message

@@ -6,7 +6,7 @@ use Rattle.std.specs.List.{All}
 use Rattle.boxcar.specs.declared.tag.Tag.{Tag}
 use Rattle.warm_stamps.specs.declared.TheConstants.{BUCKETS}
 use Rattle.warm_stamps.specs.declared.PageId.{PageId}
-use Rattle.warm_history.specs.declared.hist.Entry.{Entry}
+use Rattle.warm_history.specs.Entry.{Entry}
 use Rattle.warm_pool.specs.declared.slot.Slot.{Slot}
 use Rattle.warm_pool.specs.declared.fault.PoolFault.TheVariants.{SizeDiffers}
 use Rattle.warm_pool.specs.Filling.{TakesFilled}

@@ -36,20 +36,6 @@ use Rattle.warm_history.proofs.JoinLemmas.{raised_to_no_later}
 
 -- ---- shard by shard, and a caller sees no change
 
-pub same_next : (old ns : List NodeState) (count k : ℕ) (n m d : NodeState) → count ≡ length old
-    → k < count → n ≡ get_or ns k d → node_view m ≡ node_view n → KeepsBytes n.pool m.pool
-    → SameShards old ns → SameShards old (set ns k m)
-same_next old ns count k n m d long lt at view bytes same =
-    let there : k < length ns = omega (arith, same.count) in
-    let here : n ≡ shard_at ns k = read_at ns k n d there at in
-    same_one old ns k m there same (view ∙ ap node_view here) (subst (λ (x : NodeState). KeepsBytes x.pool m.pool) here bytes)
-
-pub offer_refused : (n m : NodeState) (why : NodeFault) → Goes n Offer (Refused why) m
-    → (why ≡ Memory) × (node_view m ≡ node_view n)
-offer_refused n m Memory same = (refl, same)
-offer_refused n m (Pool why) none = absurd none
-offer_refused n m StaleSlot none = absurd none
-
 -- the history of a node that is read is that of the shard before
 was_history : (old ns : List NodeState) (count k : ℕ) (n d : NodeState) → count ≡ length old
     → k < count → n ≡ get_or ns k d → SameShards old ns → n.history ≡ (shard_at old k).history
@@ -65,19 +51,6 @@ digests_next old ns count k n d digests table new are long lt at same is fills s
     gathered_more count k (entries_of (whole old)) digests table new fills (λ bucket low here.
     ap (λ (t : List (List ℕ)). digest_at t bucket) (is ∙ ap (λ (h : HistoryView). digests_of (entries_of h)) (was_history old ns count k n d long lt at same))
     ∙ digest_whole old k bucket are (omega arith) low (ap (λ (x : ℕ). bucket % x) (sym long) ∙ here)) so_far
-
--- ---- buckets in messages
-
-pub messages_whole : (ns : List NodeState) (j bucket : ℕ) → AreShards ns → j < length ns
-    → bucket % length ns ≡ j
-    → bucket_messages (shard_at ns j).id (shard_at ns j).history bucket
-    ≡ bucket_messages (shard_at ns 0).id (whole ns) bucket
-messages_whole ns j bucket are lt is =
-    let h = (shard_at ns j).history in
-    let id = (are.each j lt).id in
-    let horizon = shard_horizon ns j are lt (some_shards ns are) in
-    let es = bucket_whole ns j bucket are lt is in
-    λ i. entry_messages (id i) (horizon i) (sym es i)
 
 -- ---- what is sent of one bucket
 
@@ -111,14 +84,6 @@ sent_since_same ns j bucket since after are lt is =
     let es = sent_since_whole ns j bucket since after MAX_ENTRIES are lt is in
     λ i. Entries (id i) (horizon i) (es i)
 
--- what a shard gives of a bucket is what all together give of it
-pub messages_at : (ns : List NodeState) (count k bucket : ℕ) (n d : NodeState) → AreShards ns
-    → count ≡ length ns → k < count → bucket % count ≡ k → n ≡ get_or ns k d
-    → bucket_messages n.id n.history bucket ≡ bucket_messages (shard_at ns 0).id (whole ns) bucket
-messages_at ns count k bucket n d are long lt is at =
-    ap (λ (x : NodeState). bucket_messages x.id x.history bucket) (read_at ns k n d (omega (arith, long, lt)) at)
-    ∙ messages_whole ns k bucket are (omega (arith, long, lt)) (ap (λ (x : ℕ). bucket % x) (sym long) ∙ is)
-
 -- ---- what is sent of one bucket since a time
 
 pub record SentPortionIs (ns : List NodeState) (bucket since : ℕ) (after : Option PageId)
@@ -127,7 +92,7 @@ pub record SentPortionIs (ns : List NodeState) (bucket since : ℕ) (after : Opt
   pub more : IfOk result (λ x. IsTrue x.more ↔ HasMoreSince (whole ns) bucket since after)
   pub held : IfOk result (λ x. BringsHeld (whole ns) x.message)
 
-more_same : (ns : List NodeState) (j bucket since : ℕ) (after : Option PageId) → AreShards ns
+pub more_same : (ns : List NodeState) (j bucket since : ℕ) (after : Option PageId) → AreShards ns
     → j < length ns → bucket % length ns ≡ j
     → HasMoreSince (shard_at ns j).history bucket since after
     ≡ HasMoreSince (whole ns) bucket since after
@@ -155,30 +120,6 @@ sends_since ns j bucket since after n (Ok x) are lt is at sent more =
       held = subst (BringsHeld (whole ns)) (sym message) (held_since ns bucket since after (shard_at ns 0).id);
     }
 
--- ---- an answer to digests
-
--- a request has the id and the horizon of all together
-pub request_id : (old new : List NodeState) (n d : NodeState) → AreShards old → SameShards old new
-    → n ≡ get_or new 0 d → n.id ≡ (shard_at old 0).id
-request_id old new n d are same at =
-    ap (λ (x : NodeState). x.id) (read_at new 0 n d (omega (arith, same.count, some_shards old are)) at) ∙ same_ids old new same 0
-
-pub request_horizon : (old new : List NodeState) (n d : NodeState) → AreShards old
-    → SameShards old new → n ≡ get_or new 0 d → n.history.horizon ≡ (whole old).horizon
-request_horizon old new n d are same at =
-    let some = some_shards old are in
-    ap (λ (x : NodeState). x.history.horizon) (read_at new 0 n d (omega (arith, same.count, some)) at)
-    ∙ ap (λ (h : HistoryView). h.horizon) (same_histories old new same 0)
-    ∙ shard_horizon old 0 are some some
-
-pub requested_same : (old mid : List NodeState) (request : ℕ) → SameShards old mid
-    → requested_messages (shard_at mid 0).id (whole mid) request
-    ≡ requested_messages (shard_at old 0).id (whole old) request
-requested_same old mid request same =
-    let id = same_ids old mid same 0 in
-    let h = same_whole old mid same in
-    λ i. requested_messages (id i) (h i) request
-
 -- ---- an offer
 
 as_same : (old new : List NodeState) → SameShards old new → (pool : PoolView)
@@ -194,11 +135,7 @@ pub offered : (old new : List NodeState) (id horizon : ℕ) (table : List (List 
     → Together old Offer (Sent (Digest id horizon table)) new
 offered old new id horizon table same is at all pool = (λ i. Digest (is i) (at i) (all i), as_same old new same pool)
 
-pub offer_kept : (old new : List NodeState) → SameShards old new
-    → Together old Offer (Refused Memory) new
-offer_kept old new same pool = as_same old new same pool
-
--- ---- what all shards together would answer, if they are not raised
+-- ---- what all shards together would answer, where they are not raised
 
 pub first_horizon : (ns : List NodeState) (n d : NodeState) → AreShards ns → n ≡ get_or ns 0 d
     → n.history.horizon ≡ (whole ns).horizon
@@ -212,22 +149,3 @@ not_later b w t isnt less = cases (nat_lt w t) refl
     cases : (l : Bool) → nat_lt w t ≡ l → t ≤ w
     cases false over = ltb-false w t over
     cases true below = let wrong : false ≡ true = sym isnt ∙ less (ltb-true w t below) in absurd (cc)
-
-no_later : (ns : List NodeState) (time : ℕ) → time ≤ (whole ns).horizon
-    → history (with_horizon time (references_of (whole ns))) ≡ whole ns
-no_later ns time le = raised_to_no_later (whole ns) time (IsHistory-history (held ns)) le
-
-pub digests_asked : (ns : List NodeState) (id sender horizon : ℕ) (digests : List (List ℕ))
-    (answers messages : List Message) → answers ≡ messages → horizon ≤ (whole ns).horizon
-    → AnswersDigests id (whole ns) digests messages
-    → IsAnswer id (whole ns) (Digest sender horizon digests) answers
-digests_asked ns id sender horizon digests answers messages is le answered =
-    subst (λ ms. IsAnswer id (whole ns) (Digest sender horizon digests) ms) (sym is)
-    (subst (λ (h : HistoryView). AnswersDigests id h digests messages) (sym (no_later ns horizon le)) answered)
-
-pub request_asked : (ns : List NodeState) (id sender horizon request : ℕ)
-    (answers messages : List Message) → answers ≡ messages → horizon ≤ (whole ns).horizon
-    → messages ≡ requested_messages id (whole ns) request
-    → IsAnswer id (whole ns) (Want sender horizon request) answers
-request_asked ns id sender horizon request answers messages is le answered =
-    is ∙ answered ∙ ap (λ (h : HistoryView). requested_messages id h request) (sym (no_later ns horizon le))

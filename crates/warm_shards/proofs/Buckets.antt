@@ -3,7 +3,7 @@ use Rattle.std.proofs.Common.{◌≡◌, ℕ, ◌<◌, Bool, true, false, List, 
 use Rattle.std.specs.Prelude.{◌==◌}
 use Rattle.warm_stamps.specs.declared.PageId.{PageId}
 use Rattle.warm_stamps.specs.Buckets.{page_bucket}
-use Rattle.warm_history.specs.declared.hist.Entry.{Entry}
+use Rattle.warm_history.specs.Entry.{Entry}
 use Rattle.warm_history.specs.Carried.{bucket_entries, carried, comes_after, is_next_in_bucket}
 use Rattle.warm_history.specs.Carried.{later_of_bucket}
 use Rattle.warm_history.specs.Histories.{HistoryView, IsHistory, entries_of, hist, history, references_of}

@@ -4,8 +4,8 @@ use Rattle.std.specs.Int.Count.{ones}
 use Rattle.warm_stamps.specs.declared.PageId.{PageId}
 use Rattle.warm_stamps.specs.declared.Stamp.{Stamp}
 use Rattle.warm_stamps.specs.declared.Reference.{Reference}
-use Rattle.warm_history.specs.declared.hist.Entry.{Entry}
-use Rattle.warm_history.specs.declared.hist.PageHist.TheVariants.{Once}
+use Rattle.warm_history.specs.Entry.{Entry}
+use Rattle.warm_history.specs.PageHist.TheVariants.{Once}
 use Rattle.warm_history.specs.ReferenceSets.{set_of_list}
 use Rattle.warm_history.specs.Histories.{history, history_of_entries_at}
 use Rattle.warm_pool.specs.State.{fresh_pool}

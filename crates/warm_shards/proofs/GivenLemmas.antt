@@ -6,7 +6,7 @@ use Rattle.std.proofs.lemmas.Bool.{cases_eq, eqb-true, le-ltb, lt-ltb, ltb-false
 use Rattle.std.proofs.lemmas.List.{length-set}
 use Rattle.warm_stamps.specs.declared.PageId.{PageId}
 use Rattle.warm_stamps.specs.declared.Reference.{Reference}
-use Rattle.warm_history.specs.declared.hist.Entry.{Entry}
+use Rattle.warm_history.specs.Entry.{Entry}
 use Rattle.warm_history.specs.ReferenceSets.{ReferenceSet, set_of_list, ◌∪◌}
 use Rattle.warm_history.specs.Histories.{HistoryView, IsHistory, history, history_of_entries_at, references_of}
 use Rattle.warm_history.proofs.HistoryLemmas.{horizon-history}
@@ -20,7 +20,7 @@ use Rattle.warm_gossip.specs.Clauses.{Answered, DevicesAnswered, JoinsEntries, S
 use Rattle.warm_gossip.specs.State.{NodeState, NodeView, empty_node, node_view}
 use Rattle.warm_shards.specs.Clauses.{HasPart, TakesInFirst}
 use Rattle.warm_shards.specs.EachShard.{OfFirst, Rises}
-use Rattle.warm_shards.specs.Given.{AreGiven, Gives, IsGiven, at_horizon}
+use Rattle.warm_shards.specs.Given.{AreGiven, Gives, GivesOne, IsGiven, IsSame, at_horizon}
 use Rattle.warm_shards.specs.Shards.{AreShards, IsShard, IsShardCount, no_shard, of_first_shards, of_shard, shard_at, shard_of, whole}
 use Rattle.warm_shards.proofs.AreShardsLemmas.{all_shards, at_each, some_shards}
 use Rattle.warm_shards.proofs.Buckets.{shard_horizon}
@@ -37,7 +37,7 @@ pub record EachIsGiven (S : ReferenceSet) (old new : List NodeState) : Type 0 wh
   pub count : length new ≡ length old
   pub each : (i : ℕ) → i < length old → IsGiven (of_shard (length old) i S) (shard_at old i) (shard_at new i)
 
-beyond : (ns : List NodeState) (i : ℕ) → length ns ≤ i → shard_at ns i ≡ no_shard
+pub beyond : (ns : List NodeState) (i : ℕ) → length ns ≤ i → shard_at ns i ≡ no_shard
 beyond [] i le = refl
 beyond (n ∷ ns) zero le = absurd (omega arith)
 beyond (n ∷ ns) (suc i) le = beyond ns i (omega arith)
@@ -82,11 +82,11 @@ pub whole_given : (S : ReferenceSet) (old new : List NodeState) → AreGiven S o
     → whole new ≡ history (references_of (whole old) ∪ S)
 whole_given S old new have = ap (λ (v : NodeView). v.history) (have.given empty_node.pool)
 
--- ---- one shard after the other
+pub given_id : (S : ReferenceSet) (old new : List NodeState) → AreGiven S old new
+    → (shard_at new 0).id ≡ (shard_at old 0).id
+given_id S old new have = ap (λ (v : NodeView). v.id) (have.given empty_node.pool)
 
--- a caller sees what it saw
-abbrev pub IsSame : NodeState → NodeState → Type 0
-IsSame n m = SameView n m × KeepsBytes n.pool m.pool
+-- ---- one shard after the other
 
 -- the first k shards were given their part of S, and the others are as they were
 pub record GivenFirst (S : ReferenceSet) (k : ℕ) (old ns : List NodeState) : Type 0 where
@@ -201,7 +201,7 @@ given_some S k old ns are le have = record { count = have.count; each = λ i lt.
 
 gives_ok : (S : ReferenceSet) (old new : List NodeState) (given : Unit {0}) → AreGiven S old new
     → Gives S old (Ok given) new
-gives_ok S old new given have = record { shards = have.shards; given = have.given; refused = tt; pools = have.pools }
+gives_ok S old new given have = record { shards = have.shards; id = given_id S old new have; given = have.given; refused = tt; pools = have.pools }
 
 -- all shards were given their parts
 pub gives_all : (S : ReferenceSet) (k : ℕ) (old ns : List NodeState) (given : Unit {0})
@@ -216,19 +216,13 @@ pub gives_first : (S : ReferenceSet) (k : ℕ) (old ns : List NodeState) (why : 
 gives_first S k old ns why are le memory lt part have =
     let first = of_first_shards (length old) k S in
     let all = given_all first old ns are (given_some S k old ns are le have) in
-    record { shards = all.shards; given = tt; refused = (memory, (k, lt, part, whole_given first old ns all)); pools = all.pools }
+    record { shards = all.shards; id = given_id first old ns all; given = tt; refused = (memory, (k, lt, part, whole_given first old ns all)); pools = all.pools }
 
 -- none was
 pub gives_none : (S : ReferenceSet) (ns : List NodeState) (why : NodeFault) → AreShards ns
     → IsNoLater S ns → why ≡ Memory → Gives S ns (Err why) ns
 gives_none S ns why are le memory =
     gives_first S 0 ns ns why are le memory (some_shards ns are) (inl refl) (none_given S ns)
-
--- what one node does to whom S is given
-pub record GivesOne (S : ReferenceSet) (n : NodeState) (result : Result Unit NodeFault)
-    (m : NodeState) : Type 0 where
-  pub given : OnOk result (IsGiven S n m)
-  pub refused : IfErr result (λ why. (why ≡ Memory) × IsSame n m)
 
 -- there are references to pages of one shard alone
 pub gives_alone : (S : ReferenceSet) (ns : List NodeState) (i : ℕ) (n m d : NodeState)
@@ -246,18 +240,6 @@ gives_alone S ns i n m d (Ok given) are lt le own at one =
     gives_ok S ns (set ns i m) given (given_all S ns (set ns i m) are (record { count = length-set ns i m; each = each }))
 
 -- ---- raised, and then given
-
--- each shard rises: no reference is given, at this horizon
-pub risen_all : (time k : ℕ) (old ns : List NodeState) → AreShards old → length old ≤ k
-    → OfFirst (Rises time) k old ns → AreGiven (at_horizon time) old ns
-risen_all time k old ns are over risen =
-    given_all (at_horizon time) old ns are (record { count = risen.count; each = λ i lt. risen.first i (omega (arith, over, lt)) })
-
-pub kept_horizon : (ns : List NodeState) (n d : NodeState) (kept : ℕ) → AreShards ns
-    → n ≡ get_or ns 0 d → kept ≡ n.history.horizon → kept ≡ (whole ns).horizon
-kept_horizon ns n d kept are at is =
-    let some = some_shards ns are in
-    is ∙ ap (λ (x : NodeState). x.history.horizon) (read_at ns 0 n d some at) ∙ shard_horizon ns 0 are some some
 
 -- the first shard has at least the horizon to which all were raised
 pub raised_late : (old mid : List NodeState) (time : ℕ) → AreGiven (at_horizon time) old mid
@@ -306,6 +288,7 @@ pub raised_gives : (old mid new : List NodeState) (time : ℕ) (S : ReferenceSet
     → Gives S mid result new → Gives S old result new
 raised_gives old mid new time S (Ok given) at raised gives = record {
   shards = gives.shards;
+  id = gives.id ∙ given_id (at_horizon time) old mid raised;
   given = λ pool.
       let was = raised.given pool in
       let is = gives.given pool in
@@ -317,6 +300,7 @@ raised_gives old mid new time S (Ok given) at raised gives = record {
 }
 raised_gives old mid new time S (Err why) at raised gives = record {
   shards = gives.shards;
+  id = gives.id ∙ given_id (at_horizon time) old mid raised;
   given = tt;
   refused = (gives.refused.0, first_raised old mid new time S at raised gives.refused.1);
   pools = keep_then old mid new raised.pools gives.pools;

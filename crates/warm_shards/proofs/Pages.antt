@@ -7,8 +7,8 @@ use Rattle.warm_stamps.specs.declared.Reference.{Reference}
 use Rattle.warm_stamps.specs.Stamps.{page_cmp}
 use Rattle.warm_stamps.proofs.DistinctLemmas.{Has, all_append, all_filter, all_of_has, has_from_distinct}
 use Rattle.warm_stamps.proofs.StampLemmas.{page_order}
-use Rattle.warm_history.specs.declared.hist.Entry.{Entry}
-use Rattle.warm_history.specs.declared.hist.PageHist.{PageHist}
+use Rattle.warm_history.specs.Entry.{Entry}
+use Rattle.warm_history.specs.PageHist.{PageHist}
 use Rattle.warm_history.specs.ListHistories.{hist_stamps, list_references_of, references_of_entry}
 use Rattle.warm_history.specs.ReferenceSets.{ReferenceSet, is_kept, references}
 use Rattle.warm_history.specs.Histories.{entries_of, hist, history, pages}

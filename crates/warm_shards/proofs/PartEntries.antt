@@ -8,9 +8,9 @@ use Rattle.warm_stamps.specs.Stamps.{page_cmp}
 use Rattle.warm_stamps.proofs.DistinctLemmas.{rising_filter}
 use Rattle.warm_stamps.specs.declared.Reference.{Reference}
 use Rattle.warm_stamps.specs.declared.Stamp.{Stamp}
-use Rattle.warm_history.specs.declared.hist.Entry.{Entry}
-use Rattle.warm_history.specs.declared.hist.PageHist.{PageHist}
-use Rattle.warm_history.specs.declared.hist.PageHist.TheVariants.{Once, Twice}
+use Rattle.warm_history.specs.Entry.{Entry}
+use Rattle.warm_history.specs.PageHist.{PageHist}
+use Rattle.warm_history.specs.PageHist.TheVariants.{Once, Twice}
 use Rattle.warm_history.specs.ReferenceSets.{ReferenceSet, set_of_list}
 use Rattle.warm_history.specs.Histories.{history_of_entries_at, references_of}
 use Rattle.warm_history.specs.ListHistories.{hist_stamps, list_references_of, references_of_entry}
@@ -73,12 +73,3 @@ pub batch_refs : (count long shard : ℕ) (batch part : List Reference) → coun
     → set_of_list part ≡ of_shard long shard (set_of_list batch)
 batch_refs count long shard batch part same is =
     ap set_of_list (is ∙ ap (λ n. part_of_batch n shard batch) same)
-
-pub no_items : (rs : List Reference) → length rs ≡ 0 → rs ≡ []
-no_items [] none = refl
-no_items (r ∷ rs) none = absurd (omega (arith, none))
-
--- a part with references
-pub part_some : (S P : ReferenceSet) (count shard : ℕ) → P ≡ of_shard count shard S → P.given ≢ []
-    → HasPart count shard S
-part_some S P count shard is some none = some (ap (λ (T : ReferenceSet). T.given) is ∙ none)

@@ -13,22 +13,13 @@ use Rattle.warm_shards.specs.Clauses.{SameShards, TakesInAll, Together}
 use Rattle.warm_shards.specs.Given.{AreGiven, at_horizon}
 use Rattle.warm_shards.specs.Shards.{shard_at, whole}
 use Rattle.warm_shards.proofs.Calls.{same_ids, same_whole}
-use Rattle.warm_shards.proofs.GivenLemmas.{whole_given}
-
-pub horizon_of : (m : Message) → (refs_in m).horizon ≡ horizon_in m
-horizon_of (Entries sender horizon entries) = refl
-horizon_of (Digest sender horizon digests) = refl
-horizon_of (Want sender horizon request) = refl
-
-raised_id : (old mid : List NodeState) (time : ℕ) → AreGiven (at_horizon time) old mid
-    → (shard_at mid 0).id ≡ (shard_at old 0).id
-raised_id old mid time raised = ap (λ (v : NodeView). v.id) (raised.given empty_node.pool)
+use Rattle.warm_shards.proofs.GivenLemmas.{given_id, whole_given}
 
 -- a caller sees the horizon alone
 after_raise : (old mid new : List NodeState) (time : ℕ) → AreGiven (at_horizon time) old mid
     → SameShards mid new → TakesInAll old (at_horizon time) new
 after_raise old mid new time raised same pool =
-    let id = same_ids mid new same 0 ∙ raised_id old mid time raised in
+    let id = same_ids mid new same 0 ∙ given_id (at_horizon time) old mid raised in
     let h = same_whole mid new same ∙ whole_given (at_horizon time) old mid raised in
     λ i. record { id = id i; history = h i; pool = pool }
 
@@ -40,7 +31,7 @@ pub digests_received : (old mid new : List NodeState) (sender horizon : ℕ) (di
 digests_received old mid new sender horizon digests answers messages is raised same answered pool =
     let risen = history (references_of (whole old) ∪ at_horizon horizon) in
     let here = subst (λ h. AnswersDigests (shard_at mid 0).id h digests messages) (whole_given (at_horizon horizon) old mid raised) answered in
-    let own = subst (λ (x : ℕ). AnswersDigests x risen digests messages) (raised_id old mid horizon raised) here in
+    let own = subst (λ (x : ℕ). AnswersDigests x risen digests messages) (given_id (at_horizon horizon) old mid raised) here in
     (subst (λ ms. AnswersDigests (shard_at old 0).id risen digests ms) (sym is) own, after_raise old mid new horizon raised same pool)
 
 -- and so is a request
@@ -49,7 +40,7 @@ pub request_received : (old mid new : List NodeState) (sender horizon request : 
     → SameShards mid new → messages ≡ requested_messages (shard_at mid 0).id (whole mid) request
     → Together old (Receive (Want sender horizon request)) (Answers answers) new
 request_received old mid new sender horizon request answers messages is raised same answered pool =
-    let id = raised_id old mid horizon raised in
+    let id = given_id (at_horizon horizon) old mid raised in
     let h = whole_given (at_horizon horizon) old mid raised in
     let all : requested_messages (shard_at mid 0).id (whole mid) request ≡ requested_messages (shard_at old 0).id (history (references_of (whole old) ∪ at_horizon horizon)) request = λ i. requested_messages (id i) (h i) request in
     (is ∙ answered ∙ all, after_raise old mid new horizon raised same pool)

@@ -9,7 +9,7 @@ use Rattle.warm_stamps.specs.Distinct.{distinct}
 use Rattle.warm_stamps.specs.Stamps.{stamp_cmp, page_cmp}
 use Rattle.warm_stamps.proofs.DistinctLemmas.{is_equal}
 use Rattle.warm_stamps.proofs.StampLemmas.{page_order}
-use Rattle.warm_history.specs.declared.hist.PageHist.{PageHist}
+use Rattle.warm_history.specs.PageHist.{PageHist}
 use Rattle.warm_history.specs.ListHistories.{first_two}
 use Rattle.warm_history.specs.ReferenceSets.{ReferenceSet, references}
 use Rattle.warm_history.specs.Histories.{StandsFor, hist, references_of}

@@ -11,7 +11,7 @@ use Rattle.warm_stamps.specs.Distinct.{distinct}
 use Rattle.warm_stamps.specs.Stamps.{stamp_cmp, page_cmp}
 use Rattle.warm_stamps.proofs.DistinctLemmas.{is_equal}
 use Rattle.warm_stamps.proofs.StampLemmas.{page_order}
-use Rattle.warm_history.specs.declared.hist.Entry.{Entry}
+use Rattle.warm_history.specs.Entry.{Entry}
 use Rattle.warm_history.specs.ListHistories.{first_two, hist_stamps, list_references_of, references_of_entry}
 use Rattle.warm_history.specs.ReferenceSets.{is_kept, references_from, ReferenceSet, set_of_list, ◌∪◌}
 use Rattle.warm_history.specs.Histories.{hist, references_of, history, history_of_entries, join}

@@ -6,7 +6,7 @@ use Rattle.std.proofs.lemmas.List.Elements.{filter-append}
 use Rattle.warm_stamps.specs.declared.TheConstants.{BUCKETS}
 use Rattle.warm_stamps.specs.declared.Stamp.{Stamp}
 use Rattle.warm_stamps.specs.declared.Reference.{Reference}
-use Rattle.warm_history.specs.declared.hist.Entry.{Entry}
+use Rattle.warm_history.specs.Entry.{Entry}
 use Rattle.warm_history.specs.ListHistories.{hist_stamps, list_references_of, references_of_entry}
 use Rattle.warm_history.specs.ReferenceSets.{ReferenceSet, set_of_list, ◌∪◌}
 use Rattle.warm_history.specs.Histories.{HistoryView, entries_of, history, join, references_of}

@@ -9,3 +9,8 @@ pub mod EachShard
 pub mod ShardsOfNodes
 pub mod Laws
 pub mod PartLaws
+pub mod Visits
+pub mod VisitLaws
+pub mod VisitReads
+pub mod VisitParts
+pub mod VisitMessages

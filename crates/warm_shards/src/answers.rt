@@ -1,21 +1,25 @@
 //! What all shards together answer to digests and to a request.
-ghost use Rattle.std.specs.Prelude.{◌≡◌, ◌↔◌, ◌<◌, ◌++◌, ◌∷◌, [], IfErr, IfOk, IsTrue, OnOk};
+ghost use Rattle.std.specs.Prelude.{◌≡◌, ◌↔◌, ◌<◌, length, IfErr, IfOk, IsTrue};
 ghost use Rattle.warm_stamps.specs.declared.TheConstants.{BUCKETS};
-ghost use Rattle.warm_history.specs.Histories.{entries_of};
-ghost use Rattle.warm_digest.specs.BucketDigests.{digests_of};
-ghost use Rattle.warm_peer.specs.Answers.{AnswersDigests, IsAnswer, requested_messages};
+ghost use Rattle.warm_frames.specs.declared.message.Message.{Message};
+ghost use Rattle.warm_peer.specs.Answers.{IsAnswer};
 ghost use Rattle.warm_gossip.specs.declared.fault.NodeFault.TheVariants.{Memory};
-ghost use Rattle.warm_shards.specs.Clauses.{SameShards};
+ghost use Rattle.warm_gossip.specs.declared.call.Call.TheVariants.{Offer};
+ghost use Rattle.warm_gossip.specs.declared.call.Reply.TheVariants.{Sent};
+ghost use Rattle.warm_shards.specs.Clauses.{KeepPools, SameShards, TogetherAnswered};
 ghost use Rattle.warm_shards.specs.Digests.{FillsShard};
+ghost use Rattle.warm_shards.specs.Given.{ReceivesAll};
 ghost use Rattle.warm_shards.specs.Shards.{AreShards, shard_at, whole};
+ghost use Rattle.warm_shards.specs.Visits.{HasEntries, receive_visit};
 
+use crate::go_through::go_through;
+use crate::visit::Visit;
 use std::alloc::{AllocError, Global};
 use warm_devices::PageDevice;
-use warm_digest::differing;
 use warm_frames::{DIGEST_SIZE, DigestTable, Message, MessageList};
 use warm_gossip::{Node, NodeFault};
 use warm_peer::Peer;
-use warm_stamps::{BUCKETS, Bucket, BucketSet};
+use warm_stamps::{BUCKETS, Bucket};
 
 /// Copies the digests of one shard's buckets from a table into their places. The other digests are
 /// unchanged. Bucket b is of shard b modulo `count`.
@@ -38,87 +42,42 @@ pub fn fill_digests(
     }
 }
 
-/// The digests of all buckets, of each that of its shard.
+/// Lets a visit into the nodes by which they receive digests or a request, and returns their answer.
 ///
 /// `Memory` occurs only if an allocation fails.
-pub(crate) fn gathered<D: PageDevice>(nodes: &mut Vec<Node<D>>) -> Result<DigestTable, NodeFault>
-    requires { AreShards nodes.old.items }
-    ensures table { IfOk result (λ table.
-        table ≡ digests_of (entries_of (whole nodes.old.items))) }
-    ensures refused { IfErr result (λ why. why ≡ Memory) }
-    ensures same { SameShards nodes.old.items nodes.new.items }
-{
-    let count = nodes.len();
-    let mut digests = [[0; DIGEST_SIZE]; BUCKETS as usize];
-    for shard in 0..count {
-        let offered = nodes[shard].offer()?;
-        let Message::Digest { digests: table, .. } = offered else {
-            unreachable!()
-        };
-        fill_digests(&mut digests, &table, count, shard);
-    }
-    Ok(DigestTable::of(digests))
-}
-
-/// The entries of the requested buckets, bucket by bucket, of each those of its shard.
-///
-/// `AllocError` occurs only if an allocation fails.
-pub(crate) fn requested<D: PageDevice>(
-    alloc: Global,
-    nodes: &Vec<Node<D>>,
-    request: BucketSet,
-) -> Result<Vec<Message>, AllocError>
-    requires { AreShards nodes.now.items }
-    ensures { IfOk result (λ messages. messages.items
-        ≡ requested_messages (shard_at nodes.now.items 0).id (whole nodes.now.items) request) }
-{
-    let count = nodes.len();
-    let mut messages = Vec::new(alloc);
-    for bucket in request.iter() {
-        let shard = usize::from(bucket.get()) % count;
-        let mut part = nodes[shard].peer().send_bucket(bucket)?;
-        messages.append(&mut part)?;
-    }
-    Ok(messages)
-}
-
-fn put_last(messages: &mut Vec<Message>, message: Message) -> Result<(), AllocError>
-    ensures { OnOk result (messages.new.items ≡ messages.old.items ++ message ∷ []) }
-{
-    messages.push(message)?;
-    Ok(())
-}
-
-/// The answer to the digests of another replica: the entries of the buckets that differ, and then a
-/// request for these; nothing if none differs.
-///
-/// `Memory` occurs only if an allocation fails.
-pub(crate) fn answer_to_digests<D: PageDevice>(
+pub(crate) fn visited<D: PageDevice>(
     alloc: Global,
     nodes: &mut Vec<Node<D>>,
-    digests: &DigestTable,
-) -> Result<Vec<Message>, NodeFault>
-    requires { AreShards nodes.old.items }
-    ensures answer { IfOk result (λ messages. AnswersDigests (shard_at nodes.old.items 0).id
-        (whole nodes.old.items) digests.now messages.items) }
-    ensures refused { IfErr result (λ why. why ≡ Memory) }
-    ensures same { SameShards nodes.old.items nodes.new.items }
+    visit: Visit,
+) -> Result<MessageList, NodeFault>
+    requires shards { AreShards nodes.old.items }
+    requires count { length nodes.old.items ≡ visit.count }
+    ensures { (message : Message) → (HasEntries message → ⊥)
+        → visit ≡ receive_visit (shard_at nodes.old.items 0).id (length nodes.old.items) message
+        → ReceivesAll message nodes.old.items result nodes.new.items }
 {
-    let own = gathered(nodes)?;
-    let request = differing(digests, &own);
-    // The request is a number of 64 bits.
-    let _bits = request.bits();
-    if request.is_empty() {
-        return Ok(Vec::new(alloc));
-    }
-    let mut messages = requested(alloc, nodes, request)?;
-    let want = Message::Want {
-        sender: nodes[0].id(),
-        horizon: nodes[0].history().horizon(),
-        request,
+    let mut visit = visit;
+    go_through(nodes, &mut visit)?;
+    let answers = visit.into_answers(alloc)?;
+    Ok(answers)
+}
+
+/// What all nodes together offer.
+pub(crate) fn offer_of_all<D: PageDevice>(
+    alloc: Global,
+    nodes: &mut Vec<Node<D>>,
+) -> Result<Message, NodeFault>
+    requires { AreShards nodes.old.items }
+    ensures shards { AreShards nodes.new.items }
+    ensures step { TogetherAnswered nodes.old.items Offer Sent result nodes.new.items }
+    ensures pools { KeepPools nodes.old.items nodes.new.items }
+{
+    let mut visit = Visit::offer(alloc, nodes[0].id(), nodes.len());
+    go_through(nodes, &mut visit)?;
+    let Some(offer) = visit.offered() else {
+        unreachable!()
     };
-    put_last(&mut messages, want)?;
-    Ok(messages)
+    Ok(offer)
 }
 
 // A peer that has the history of all shards.
@@ -178,15 +137,6 @@ pub(crate) fn answered<D: PageDevice>(
     if is_later(nodes, message.horizon()) {
         return Ok(answered_by_copy(alloc, nodes, message)?);
     }
-    match message {
-        Message::Entries { .. } => Ok(MessageList::of(Vec::new(alloc))),
-        Message::Digest { digests, .. } => {
-            let messages = answer_to_digests(alloc, nodes, digests)?;
-            Ok(MessageList::of(messages))
-        }
-        Message::Want { request, .. } => {
-            let messages = requested(alloc, nodes, *request)?;
-            Ok(MessageList::of(messages))
-        }
-    }
+    let visit = Visit::receive(alloc, nodes[0].id(), nodes.len(), message)?;
+    visited(alloc, nodes, visit)
 }

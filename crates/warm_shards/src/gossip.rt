@@ -1,6 +1,6 @@
 //! Exchanging histories: what all shards together offer, send, receive and answer.
 ghost use Rattle.std.specs.Prelude.{◌≡◌, ◌↔◌, IfErr, IfOk, OnOk, IsTrue};
-ghost use Rattle.warm_history.specs.Histories.{entries_of, references_of};
+ghost use Rattle.warm_history.specs.Histories.{references_of};
 ghost use Rattle.warm_peer.specs.Answers.{IsAnswer, refs_in};
 ghost use Rattle.warm_peer.specs.Since.{BringsHeld, HasMoreSince, sent_since};
 ghost use Rattle.warm_gossip.specs.declared.call.Call.TheVariants.{Offer, Receive, Send};
@@ -8,61 +8,44 @@ ghost use Rattle.warm_gossip.specs.declared.call.Reply.TheVariants.{Answers, Sen
 ghost use Rattle.warm_gossip.specs.declared.fault.NodeFault.TheVariants.{Memory};
 ghost use Rattle.warm_shards.specs.Clauses.{JoinsAll, KeepPools, SameShards, TakesInFirst};
 ghost use Rattle.warm_shards.specs.Clauses.{Together, TogetherAnswered};
-ghost use Rattle.warm_shards.specs.Given.{Gives};
+ghost use Rattle.warm_shards.specs.Given.{Gives, ReceivesAll};
 ghost use Rattle.warm_shards.specs.Shards.{AreShards, shard_at, whole};
 
-use crate::answers::{answer_to_digests, answered, gathered, requested};
+use crate::answers::{answered, offer_of_all, visited};
 use crate::history_calls::raise_all;
 use crate::joining::join_parts;
 use crate::shards::Shards;
-use std::alloc::{AllocError, Global};
+use crate::visit::{Visit, entries_of};
+use std::alloc::Global;
 use warm_devices::PageDevice;
 use warm_frames::{Message, MessageList};
 use warm_gossip::{Node, NodeFault};
-use warm_history::{Entry, History};
+use warm_history::History;
 use warm_peer::SentPortion;
 use warm_stamps::{Bucket, PageId};
 
-// Raises all shards to the message's horizon; takes its entries in, or answers it.
+// Takes the entries of a message in, or answers it. Entries that are of pages of one shard are not
+// copied.
 fn received<D: PageDevice>(
     alloc: Global,
     nodes: &mut Vec<Node<D>>,
     message: Message,
 ) -> Result<MessageList, NodeFault>
     requires { AreShards nodes.old.items }
-    ensures shards { AreShards nodes.new.items }
-    ensures received { IfOk result (λ answers. Together nodes.old.items (Receive message)
-        (Answers answers) nodes.new.items) }
-    ensures refused { IfErr result (λ why. (why ≡ Memory)
-        × TakesInFirst nodes.old.items (refs_in message) nodes.new.items) }
-    ensures pools { KeepPools nodes.old.items nodes.new.items }
+    ensures { ReceivesAll message nodes.old.items result nodes.new.items }
 {
-    raise_all(nodes, message.horizon());
-    match message {
-        Message::Entries {
-            horizon,
-            entries,
-            ..
-        } => {
-            join_parts(alloc, nodes, horizon, entries.as_slice())?;
-            Ok(MessageList::of(Vec::new(alloc)))
-        }
-        Message::Digest { digests, .. } => {
-            let messages = answer_to_digests(alloc, nodes, &digests)?;
-            Ok(MessageList::of(messages))
-        }
-        Message::Want { request, .. } => {
-            let messages = requested(alloc, nodes, request)?;
-            Ok(MessageList::of(messages))
-        }
+    if let Message::Entries {
+        horizon,
+        entries,
+        ..
+    } = &message
+    {
+        raise_all(nodes, *horizon);
+        join_parts(alloc, nodes, *horizon, entries.as_slice())?;
+        return Ok(MessageList::of(Vec::new(alloc)));
     }
-}
-
-// The entries of a history.
-fn entries_of(alloc: Global, history: &History) -> Result<Vec<Entry>, AllocError>
-    ensures { IfOk result (λ entries. entries.items ≡ entries_of history.now) }
-{
-    history.iter().collect(alloc)
+    let visit = Visit::receive(alloc, nodes[0].id(), nodes.len(), &message)?;
+    visited(alloc, nodes, visit)
 }
 
 // Raises all shards to the horizon of another history, and takes its entries in.
@@ -123,12 +106,7 @@ impl<D: PageDevice> Shards<D> {
         ensures step { TogetherAnswered self.old Offer Sent result self.new }
         ensures pools { KeepPools self.old self.new }
     {
-        let digests = gathered(&mut self.nodes)?;
-        Ok(Message::Digest {
-            sender: self.nodes[0].id(),
-            horizon: self.nodes[0].history().horizon(),
-            digests,
-        })
+        offer_of_all(self.alloc, &mut self.nodes)
     }
 
     /// The messages with which all shards together would answer this one, as

@@ -10,9 +10,10 @@ ghost use Rattle.warm_shards.specs.Clauses.{TogetherAnswered};
 ghost use Rattle.warm_shards.specs.Given.{AreGiven, Gives, at_horizon};
 ghost use Rattle.warm_shards.specs.Shards.{AreShards, shard_of, whole};
 
-use crate::batch_parts::{only_shard, parts_of};
-use crate::each_shard::raise_first;
+use crate::batch_parts::only_shard;
+use crate::go_through::go_through;
 use crate::shards::Shards;
+use crate::visit::Visit;
 use std::alloc::Global;
 use warm_devices::PageDevice;
 use warm_gossip::{Node, NodeFault};
@@ -34,27 +35,6 @@ fn absorb_alone<D: PageDevice>(
     nodes[shard].absorb(batch)
 }
 
-// Each node absorbs its part of the batch, shard by shard up to the first that refuses its part.
-fn absorb_each<D: PageDevice>(
-    alloc: Global,
-    nodes: &mut Vec<Node<D>>,
-    batch: &[Reference],
-) -> Result<(), NodeFault>
-    requires { AreShards nodes.old.items }
-    ensures { Gives (set_of_list batch.now) nodes.old.items result nodes.new.items }
-{
-    let count = nodes.len();
-    let parts = parts_of(alloc, batch, count)?;
-    for shard in 0..count {
-        let part = parts[shard].as_slice();
-        if part.is_empty() {
-            continue;
-        }
-        nodes[shard].absorb(part)?;
-    }
-    Ok(())
-}
-
 // Each node absorbs its part of the batch. It is copied only if it has pages of several shards.
 fn absorb_parts<D: PageDevice>(
     alloc: Global,
@@ -67,18 +47,24 @@ fn absorb_parts<D: PageDevice>(
     if let Some(shard) = only_shard(batch, nodes.len()) {
         return absorb_alone(nodes, shard, batch);
     }
-    absorb_each(alloc, nodes, batch)
+    let mut visit = Visit::absorb(alloc, nodes[0].id(), nodes.len(), batch)?;
+    go_through(nodes, &mut visit)
 }
 
-// Raises the horizon of each node, and returns that of all.
+/// Raises the horizon of each node, and returns that of all.
 pub(crate) fn raise_all<D: PageDevice>(nodes: &mut Vec<Node<D>>, time: u64) -> u64
     requires { AreShards nodes.old.items }
     ensures given { AreGiven (at_horizon time) nodes.old.items nodes.new.items }
     ensures kept { result ≡ (whole nodes.new.items).horizon }
 {
-    let count = nodes.len();
-    raise_first(nodes, count, time);
-    nodes[0].history().horizon()
+    let mut visit = Visit::raise(nodes[0].id(), nodes.len(), time);
+    let Ok(()) = go_through(nodes, &mut visit) else {
+        unreachable!()
+    };
+    let Some(horizon) = visit.kept() else {
+        unreachable!()
+    };
+    horizon
 }
 
 impl<D: PageDevice> Shards<D> {

@@ -5,7 +5,9 @@ ghost use Rattle.warm_history.specs.Histories.{history_of_entries_at, references
 ghost use Rattle.warm_shards.specs.Given.{Gives};
 ghost use Rattle.warm_shards.specs.Shards.{AreShards, shard_at, shard_of};
 
-use crate::batch_parts::{only_shard, parts_of};
+use crate::batch_parts::only_shard;
+use crate::go_through::go_through;
+use crate::visit::Visit;
 use std::alloc::Global;
 use warm_devices::PageDevice;
 use warm_gossip::{Node, NodeFault};
@@ -29,31 +31,6 @@ fn join_alone<D: PageDevice>(
     nodes[shard].join_entries(horizon, entries)
 }
 
-// Each node takes in the entries of its pages, shard by shard up to the first that refuses them.
-// All shards have the horizon.
-fn join_each<D: PageDevice>(
-    alloc: Global,
-    nodes: &mut Vec<Node<D>>,
-    horizon: u64,
-    entries: &[Entry],
-) -> Result<(), NodeFault>
-    requires shards { AreShards nodes.old.items }
-    requires raised { horizon ≤ (shard_at nodes.old.items 0).history.horizon }
-    ensures { Gives (references_of (history_of_entries_at horizon entries.now)) nodes.old.items
-        result nodes.new.items }
-{
-    let count = nodes.len();
-    let parts = parts_of(alloc, entries, count)?;
-    for shard in 0..count {
-        let part = parts[shard].as_slice();
-        if part.is_empty() {
-            continue;
-        }
-        nodes[shard].join_entries(horizon, part)?;
-    }
-    Ok(())
-}
-
 /// Each node takes in the entries of its pages. All shards have the horizon. The entries are copied
 /// only if they are of pages of several shards.
 pub(crate) fn join_parts<D: PageDevice>(
@@ -70,5 +47,6 @@ pub(crate) fn join_parts<D: PageDevice>(
     if let Some(shard) = only_shard(entries, nodes.len()) {
         return join_alone(nodes, shard, horizon, entries);
     }
-    join_each(alloc, nodes, horizon, entries)
+    let mut visit = Visit::entries(alloc, nodes[0].id(), nodes.len(), horizon, entries)?;
+    go_through(nodes, &mut visit)
 }

@@ -1,8 +1,8 @@
 -- Worked examples: the effect of events on the lists of references, computed.
 use Rattle.std.proofs.Common.{◌≡◌, ℕ, [], ◌∷◌, List, Option, None, refl}
 use Rattle.warm_stamps.specs.declared.Reference.{Reference}
-use Rattle.warm_history.specs.declared.hist.Entry.{Entry}
-use Rattle.warm_history.specs.declared.hist.PageHist.TheVariants.{Once, Twice}
+use Rattle.warm_history.specs.Entry.{Entry}
+use Rattle.warm_history.specs.PageHist.TheVariants.{Once, Twice}
 use Rattle.warm_history.specs.ReferenceSets.{set_of_list, with_horizon}
 use Rattle.warm_history.specs.Histories.{HistoryView, history_of_entries, history}
 use Rattle.warm_history.specs.Carried.{carried}

@@ -10,7 +10,7 @@ use Rattle.warm_stamps.specs.declared.TheConstants.{MAX_REPLICAS}
 use Rattle.warm_peer.specs.Answers.{requested_buckets}
 use Rattle.warm_stamps.specs.Stamps.{page_cmp}
 use Rattle.warm_stamps.proofs.DistinctLemmas.{all_append, all_filter}
-use Rattle.warm_history.specs.declared.hist.Entry.{Entry}
+use Rattle.warm_history.specs.Entry.{Entry}
 use Rattle.warm_history.specs.ReferenceSets.{ReferenceSet, is_kept, references, set_of_list, ◌∪◌}
 use Rattle.warm_history.specs.Carried.{carried, pages_carried}
 use Rattle.warm_history.proofs.CarriedLemmas.{references-those}

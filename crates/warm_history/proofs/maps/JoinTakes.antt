@@ -5,30 +5,33 @@ use Rattle.std.specs.BTreeMap.Range.{entries_between}
 use Rattle.std.specs.declared.ops.Bound.TheVariants.{Included, Excluded}
 use Rattle.std.specs.Ordering.{nat_cmp}
 use Rattle.std.proofs.lemmas.List.{append-nil}
-use Rattle.warm_history.specs.declared.hist.PageHist.{PageHist}
-use Rattle.warm_history.specs.declared.hist.Entry.{Entry}
-use Rattle.warm_history.specs.maps.BucketMaps.{KeysAscend, found}
+use Rattle.warm_maps.specs.declared.hist.PageHist.{PageHist}
+use Rattle.warm_maps.specs.declared.hist.Entry.{Entry}
+use Rattle.warm_maps.specs.BucketMaps.{KeysAscend, found}
 use Rattle.warm_history.specs.Carried.{bucket_entries, is_next_in_bucket}
 use Rattle.warm_history.specs.Changes.{MarksChanged}
-use Rattle.warm_history.specs.maps.Cuts.{cut_at}
+use Rattle.warm_maps.specs.Cuts.{cut_at}
 use Rattle.warm_history.specs.KeptEntries.{kept_entries}
 use Rattle.warm_history.specs.ListHistories.{latest_of, hist_stamps, known_stamps, references_of_entry, list_references_of, list_history}
-use Rattle.warm_history.specs.maps.MapKeys.{first_key, page_of_key}
-use Rattle.warm_history.specs.maps.MapPairs.{MapPairs, AreKept, TakesPairs, as_entries, kept}
-use Rattle.warm_history.specs.maps.NearJoins.{TellsBuckets}
+use Rattle.warm_maps.specs.MapKeys.{first_key, page_of_key}
+use Rattle.warm_maps.specs.MapPairs.{MapPairs, AreKept, as_entries}
+use Rattle.warm_history.specs.maps.KeptPairs.{TakesPairs, kept}
+use Rattle.warm_maps.specs.NearJoins.{TellsBuckets}
 use Rattle.warm_history.specs.ReferenceSets.{references_from}
-use Rattle.warm_history.specs.maps.Runs.{at_key, with_pairs}
-use Rattle.warm_history.specs.maps.Walks.{joined_pairs, merged}
-use Rattle.warm_history.proofs.maps.BucketParts.{from_first_on}
+use Rattle.warm_maps.specs.Runs.{at_key, with_pairs}
+use Rattle.warm_maps.specs.Walks.{joined_pairs, merged}
+use Rattle.warm_maps.proofs.BucketParts.{from_first_on}
 use Rattle.warm_history.proofs.ChangeLemmas.{changes_at}
-use Rattle.warm_history.proofs.maps.CutLemmas.{cut_kept, kept_left}
+use Rattle.warm_history.proofs.maps.KeptCuts.{cut_kept}
+use Rattle.warm_maps.proofs.CutLemmas.{kept_left}
 use Rattle.warm_history.proofs.KeptLemmas.{history-kept}
 use Rattle.warm_history.proofs.ListHistoryLemmas.{hist_swap}
 use Rattle.warm_history.proofs.ListJoinLemmas.{history_alike, history_first, history_second, history_of_own_references}
-use Rattle.warm_history.proofs.maps.MapKeyOrder.{in_bucket, of_bucket}
-use Rattle.warm_history.proofs.maps.MapPairLemmas.{AreKeys, IsHistory-kept, between, chosen_kept, exact_pair, kept_more, told_by_pairs}
+use Rattle.warm_maps.proofs.MapKeyOrder.{in_bucket, of_bucket}
+use Rattle.warm_maps.proofs.MapPairLemmas.{AreKeys, between, kept_more}
+use Rattle.warm_history.proofs.maps.KeptPairLemmas.{IsHistory-kept, chosen_kept, exact_pair, told_by_pairs}
 use Rattle.warm_history.proofs.maps.MergeIterLemmas.{bucket_from_start}
-use Rattle.warm_history.proofs.maps.RunLemmas.{bucket_is, found_under, some_joined}
+use Rattle.warm_history.proofs.maps.RunTakes.{bucket_is, found_under, some_joined}
 
 -- pairs with others merged hold what both say
 exact_merged : (old more : MapPairs) → AreKept old → AreKeys more → KeysAscend more

@@ -8,12 +8,12 @@ use Rattle.warm_stamps.specs.Buckets.{page_bucket}
 use Rattle.warm_stamps.specs.Stamps.{page_cmp}
 use Rattle.warm_stamps.proofs.DistinctLemmas.{flipped, all_filter}
 use Rattle.warm_stamps.proofs.StampLemmas.{page_order}
-use Rattle.warm_history.specs.declared.hist.Entry.{Entry}
+use Rattle.warm_maps.specs.declared.hist.Entry.{Entry}
 use Rattle.warm_history.specs.ListHistories.{PagesAscend}
 use Rattle.warm_history.specs.Carried.{bucket_entries, later_of_bucket}
-use Rattle.warm_history.specs.maps.Merges.{is_between, of_buckets, first_of, rest_of, is_later}
-use Rattle.warm_history.specs.maps.Merges.{merge}
-use Rattle.warm_history.specs.maps.MapPairs.{MapPairs, as_entries, kept}
+use Rattle.warm_history.specs.maps.Merges.{is_between, of_buckets, first_of, rest_of, is_later, merge}
+use Rattle.warm_maps.specs.MapPairs.{MapPairs, as_entries}
+use Rattle.warm_history.specs.maps.KeptPairs.{kept}
 use Rattle.warm_history.proofs.ListHistoryLemmas.{AllAbove}
 use Rattle.warm_history.proofs.OrderLemmas.{in_order_rises}
 

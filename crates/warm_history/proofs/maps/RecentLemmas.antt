@@ -6,16 +6,17 @@ use Rattle.std.proofs.lemmas.Iterator.Consumers.{YieldsList-end}
 use Rattle.std.proofs.lemmas.List.{append-nil}
 use Rattle.warm_stamps.specs.declared.Stamp.{Stamp}
 use Rattle.warm_stamps.specs.declared.Reference.{Reference}
-use Rattle.warm_history.specs.declared.hist.PageHist.{PageHist}
-use Rattle.warm_history.specs.declared.hist.PageHist.TheVariants.{Once}
-use Rattle.warm_history.specs.declared.hist.Entry.{Entry}
+use Rattle.warm_maps.specs.declared.hist.PageHist.{PageHist}
+use Rattle.warm_maps.specs.declared.hist.PageHist.TheVariants.{Once}
+use Rattle.warm_maps.specs.declared.hist.Entry.{Entry}
 use Rattle.warm_history.specs.ReferenceSets.{is_kept, references_from}
 use Rattle.warm_history.specs.ListHistories.{hist_stamps, references_of_entry, list_references_of, list_history}
-use Rattle.warm_history.specs.maps.MapKeys.{key_of_page, page_of_key}
-use Rattle.warm_history.specs.maps.MapPairs.{MapPairs, as_entries, kept, AreKept, references_at, PairsTakeIn, TakesStamps, TakesRecent, TakesReferences, TakesEntries}
+use Rattle.warm_maps.specs.MapKeys.{key_of_page, page_of_key}
+use Rattle.warm_maps.specs.MapPairs.{MapPairs, as_entries, AreKept}
+use Rattle.warm_history.specs.maps.KeptPairs.{kept, references_at, PairsTakeIn, TakesStamps, TakesRecent, TakesReferences, TakesEntries}
 use Rattle.warm_history.proofs.KeptLemmas.{recent_entry, kept-append, kept_alike}
 use Rattle.warm_history.proofs.ListJoinLemmas.{history_alike, history_first, history_of_own_references}
-use Rattle.warm_history.proofs.maps.MapPairLemmas.{IsHistory-kept, hist-pairs}
+use Rattle.warm_history.proofs.maps.KeptPairLemmas.{IsHistory-kept, hist-pairs}
 
 -- the references at a key that aren't older than the horizon are those of the stamps that aren't
 told_recent : (m p : ℕ) (more : PageHist) (ss : List Stamp)

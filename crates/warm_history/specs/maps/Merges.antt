@@ -5,11 +5,11 @@ use Rattle.std.specs.Ordering.{is_gt}
 use Rattle.warm_stamps.specs.declared.PageId.{PageId}
 use Rattle.warm_stamps.specs.Stamps.{page_cmp}
 use Rattle.warm_stamps.specs.Buckets.{page_bucket}
-use Rattle.warm_history.specs.declared.hist.Entry.{Entry}
+use Rattle.warm_maps.specs.declared.hist.Entry.{Entry}
 use Rattle.warm_history.specs.declared.maps.merge_iter.BucketIter.{BucketIter}
 use Rattle.warm_history.specs.declared.maps.merge_iter.MergeIter.{MergeIter}
-use Rattle.warm_history.specs.maps.MapPairs.{as_entries}
-use Rattle.warm_history.specs.maps.NearPairs.{lent_entry}
+use Rattle.warm_maps.specs.MapPairs.{as_entries}
+use Rattle.warm_maps.specs.NearPairs.{lent_entry}
 
 -- the number of the page's bucket is at least from, and less than to
 abbrev pub is_between : ℕ → ℕ → PageId → Bool

@@ -6,9 +6,10 @@
 //! type of its own, and so its contract speaks of the two below alone.
 ghost use Rattle.std.specs.Prelude.{◌≡◌, ◌+◌, ◌≤◌, ◌<◌};
 ghost use Rattle.warm_stamps.specs.declared.TheConstants.{BUCKETS};
-ghost use Rattle.warm_history.specs.maps.MapPairs.{as_entries, kept, AreKept};
+ghost use Rattle.warm_maps.specs.MapPairs.{as_entries, AreKept};
+ghost use Rattle.warm_history.specs.maps.KeptPairs.{kept};
 ghost use Rattle.warm_history.specs.Histories.{entries_of};
-ghost use Rattle.warm_history.specs.maps.NearPairs.{lent_entry};
+ghost use Rattle.warm_maps.specs.NearPairs.{lent_entry};
 ghost use Rattle.warm_history.specs.maps.Merges.{bucket_iter_left, two_left, four_left, eight_left};
 ghost use Rattle.warm_history.specs.maps.Merges.{sixteen_left, thirty_two_left, all_left};
 ghost use Rattle.warm_history.specs.maps.Merges.{first_of, rest_of, merge, both_left};
@@ -16,8 +17,7 @@ ghost use Rattle.warm_history.specs.maps.Merges.{merge_iter_left};
 ghost use Rattle.warm_history.specs.Carried.{later_of_bucket};
 ghost use Rattle.warm_history.specs.maps.Merges.{of_buckets, is_later};
 
-use crate::maps::bucket_map::{BucketPairs, Lent};
-use crate::maps::bucket_maps::BucketMaps;
+use warm_maps::{BucketMaps, BucketPairs, Lent};
 use warm_stamps::PageId;
 
 // The pages of the bucket of this number that are greater than the given one, if one is given.
@@ -26,17 +26,13 @@ pub(crate) fn later_pairs(maps: &BucketMaps, number: u8, after: Option<PageId>) 
     requires kept { AreKept maps.now }
     ensures { as_entries result ≡ later_of_bucket number after (kept maps.now) }
 {
-    let map = maps.map_of(number);
-    match after {
-        None => map.pairs(number),
-        Some(last) => map.pairs_after(number, last),
-    }
+    maps.later_pairs(number, after)
 }
 
 // A source of entries that are taken one by one, and whose first can be looked at.
 pub(crate) trait Source<'a>: Drop {
     ghost use Rattle.std.specs.Prelude.{List};
-    ghost use Rattle.warm_history.specs.declared.hist.Entry.{Entry};
+    ghost use Rattle.warm_maps.specs.declared.hist.Entry.{Entry};
 
     ghost left: { Self → List Entry };
 

@@ -7,28 +7,18 @@ ghost use Rattle.std.specs.Prelude.{◌≡◌, ◌<◌, List, [], ◌∷◌, ◌
 ghost use Rattle.std.specs.Prelude.{vec_capacity, vec_len};
 ghost use Rattle.std.specs.Iterator.{IsFinite, Drains};
 ghost use Rattle.warm_history.specs.Changes.{MarksChanged};
-ghost use Rattle.warm_history.specs.maps.MapKeys.{key_of_page, page_of_key};
-ghost use Rattle.warm_history.specs.maps.MapPairs.{
-  AreKept,
-  kept,
-  TakesStamps,
-  TakesRecent,
-  TakesReferences,
-  TakesEntries,
-  TakesPairs,
-};
-ghost use Rattle.warm_history.specs.maps.BucketMaps.{found};
+ghost use Rattle.warm_maps.specs.MapKeys.{key_of_page, page_of_key};
+ghost use Rattle.warm_maps.specs.MapPairs.{AreKept};
+ghost use Rattle.warm_history.specs.maps.KeptPairs.{kept, TakesStamps, TakesRecent};
+ghost use Rattle.warm_history.specs.maps.KeptPairs.{TakesReferences, TakesEntries, TakesPairs};
+ghost use Rattle.warm_maps.specs.Runs.{IsRun};
 ghost use Rattle.warm_history.specs.Histories.{NoneOlder};
 ghost use Rattle.warm_history.specs.KeptEntries.{kept_entries};
-ghost use Rattle.warm_history.specs.maps.Undo.{note_of, undone, LeadsBack};
+ghost use Rattle.warm_maps.specs.Undo.{note_of, undone, LeadsBack};
 
-use crate::hist::{Entry, PageHist};
-use crate::maps::bucket_map::{Change, UndoNote};
-use crate::maps::bucket_maps::BucketMaps;
-use crate::maps::packed::Packed;
-use crate::maps::runs::{bucket_of_run, take_run};
 use std::alloc::{AllocError, Global};
-use warm_stamps::{BucketSet, PageId, Reference, bucket_of};
+use warm_maps::{BucketMaps, Change, Entry, Packed, PageHist, UndoNote, bucket_of_run};
+use warm_stamps::{Bucket, BucketSet, PageId, Reference, bucket_of};
 
 // The outcome of taking in the stamps of a page.
 #[derive(Debug, Clone, Copy)]
@@ -38,14 +28,6 @@ struct Outcome {
     // Whether the page was new. Pages often come in runs that are all new or all known, so the next
     // page is likely to be as this one was, if it is not the same.
     is_new: bool,
-}
-
-// The value of a page, if it has one.
-pub(crate) fn lookup(maps: &BucketMaps, page: PageId) -> Option<PageHist>
-    ensures { result ≡ found (key_of_page page) maps.now }
-{
-    let packed = maps.get(page)?;
-    Some(packed.get())
 }
 
 // Takes in all references that are not older than the horizon or, if an allocation fails, none.
@@ -126,6 +108,29 @@ pub(crate) fn take_entries(
             Err(fault)
         }
     }
+}
+
+// Takes in a run of a bucket: all stamps that are not older than the horizon or, if an
+// allocation fails, none.
+fn take_run(
+    alloc: Global,
+    maps: &mut BucketMaps,
+    horizon: u64,
+    bucket: Bucket,
+    run: &[Entry],
+) -> Result<BucketSet, AllocError>
+    requires kept { AreKept maps.old }
+    requires run { IsRun bucket run.now }
+    ensures exact { OnOk result (TakesEntries horizon maps.old run.now maps.new) }
+    ensures changed { IfOk result (MarksChanged (kept maps.old) (kept maps.new)) }
+    ensures whole { AreKept maps.new }
+    ensures err { OnErr result (maps.new ≡ maps.old) }
+{
+    let changes = warm_maps::take_run(alloc, maps, horizon, bucket, run)?;
+    if !changes {
+        return Ok(BucketSet::new());
+    }
+    Ok(BucketSet::new().with(bucket))
 }
 
 // Takes in all stamps of another map that are not older than the horizon or, if an allocation

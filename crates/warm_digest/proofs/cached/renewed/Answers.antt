@@ -5,7 +5,7 @@ use Rattle.std.proofs.lemmas.Grind.{get_or-set_at}
 use Rattle.std.proofs.lemmas.List.{get_or-set_other, length-set}
 use Rattle.sha2.specs.Sha256.{sha256}
 use Rattle.warm_stamps.proofs.BucketLemmas.{Visited, visited, all_visited}
-use Rattle.warm_history.specs.declared.hist.Entry.{Entry}
+use Rattle.warm_history.specs.Entry.{Entry}
 use Rattle.warm_history.specs.Histories.{entries_of}
 use Rattle.warm_history.specs.Losses.{raised}
 use Rattle.warm_frames.specs.Digests.{digest_at}

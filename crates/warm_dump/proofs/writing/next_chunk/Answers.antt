@@ -1,7 +1,7 @@
 use Rattle.std.proofs.Common.{List, ap, arith, length}
 use Rattle.std.proofs.lemmas.List.{length-append}
 use Rattle.warm_frames.specs.declared.layout.TheConstants.{MAX_ENTRIES}
-use Rattle.warm_history.specs.declared.hist.Entry.{Entry}
+use Rattle.warm_history.specs.Entry.{Entry}
 use Rattle.warm_dump.proofs.DumpLemmas.{chunk_item, chunk_full, chunk_last}
 use Rattle.warm_dump.proofs.writing.next_chunk.Goals as goal
 

@@ -1,5 +1,5 @@
 use Rattle.std.proofs.Common.{◌≡◌, Ok, Err, None, refl, arith}
-use Rattle.warm_history.specs.declared.hist.Entry.{Entry}
+use Rattle.warm_history.specs.Entry.{Entry}
 use Rattle.warm_frames.specs.Reading.{entry_at, entries_at}
 use Rattle.warm_frames.proofs.EntryLemmas.{reads_on, reads_fault, reads_all}
 use Rattle.warm_frames.proofs.reading.entries_at.Goals as goal

@@ -1,6 +1,6 @@
 use Rattle.std.proofs.Common.{List, ℕ, ◌∷◌, ◌++◌, sym, ap, ◌∙◌}
 use Rattle.warm_stamps.specs.Bytes.{bytes_of_page, bytes_of_stamp}
-use Rattle.warm_history.specs.declared.hist.PageHist.{PageHist}
+use Rattle.warm_history.specs.PageHist.{PageHist}
 use Rattle.warm_frames.specs.Entries.{hist_bytes}
 use Rattle.warm_frames.proofs.writing.put_entry.Goals as goal
 

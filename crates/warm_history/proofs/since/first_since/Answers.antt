@@ -1,6 +1,6 @@
 use Rattle.std.proofs.Common.{List, ap, arith, length}
 use Rattle.std.proofs.lemmas.List.{length-append}
-use Rattle.warm_history.specs.declared.hist.Entry.{Entry}
+use Rattle.warm_maps.specs.declared.hist.Entry.{Entry}
 use Rattle.warm_history.proofs.SinceLemmas.{taken_all, taken_enough, taken_more}
 use Rattle.warm_history.proofs.since.first_since.Goals as goal
 

@@ -1,7 +1,8 @@
 use Rattle.std.proofs.Common.{rules, ◌≡◌, ◌↔◌, length, Ok, IsTrue, inr, refl, subst}
 use Rattle.warm_frames.specs.Limits.{entries_in}
 use Rattle.warm_peer.specs.Since.{HasMoreSince}
-use Rattle.warm_c.specs.Since.{PutsSent, last_in, message_since}
+use Rattle.warm_c.specs.Calls.{PutsFrame}
+use Rattle.warm_c.specs.Since.{last_in, message_since}
 use Rattle.warm_c.proofs.HandleLemmas.{bool_same}
 use Rattle.warm_c.proofs.open_node.OpenNode.send_since.Goals as goal
 
@@ -13,7 +14,7 @@ returns c =
     let more = subst (λ b. IsTrue c.in_ok-sent.sent.more ↔ HasMoreSince c.args.self.now.node.history b c.args.since c.args.after) same c.in_ok-sent.ensures.more in
     inr (
       search rules,
-      subst (λ m. PutsSent c.args.even_empty m c.args.frame.now c.args.len.now c.put_sent.new.frame c.put_sent.new.len (Ok tt)) is (search rules),
+      subst (λ m. PutsFrame m c.args.frame.now c.args.len.now c.put_frame.new.frame c.put_frame.new.len (Ok tt)) is (search rules),
       (
         subst (λ m. c.entry_count.result ≡ length (entries_in m)) is c.entry_count.ensures,
         bool_same c.c_bool.result c.c_bool.ensures more,

@@ -1,5 +1,5 @@
 use Rattle.std.proofs.Common.{List, ap, ◌∙◌}
-use Rattle.warm_history.specs.declared.hist.Entry.{Entry}
+use Rattle.warm_history.specs.Entry.{Entry}
 use Rattle.warm_history.specs.Histories.{HistoryView, history_of_entries_at, join}
 use Rattle.warm_dump.proofs.BuilderLemmas.{settled}
 use Rattle.warm_dump.proofs.builder.HistoryBuilder.join_waiting.Goals as goal

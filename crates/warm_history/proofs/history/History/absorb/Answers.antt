@@ -2,11 +2,11 @@ use Rattle.std.proofs.Common.{◌≡◌, ap, subst, ◌∙◌}
 use Rattle.warm_history.specs.Changes.{MarksChanged}
 use Rattle.warm_history.specs.ReferenceSets.{set_of_list, ◌∪◌}
 use Rattle.warm_history.specs.Histories.{HistoryView, entries_of, history_of_entries_at, references_of, history}
-use Rattle.warm_history.specs.maps.MapPairs.{kept}
+use Rattle.warm_history.specs.maps.KeptPairs.{kept}
 use Rattle.warm_history.proofs.JoinLemmas.{history_first}
 use Rattle.warm_history.proofs.ChangeLemmas.{nothing_changed}
 use Rattle.warm_history.proofs.RaiseLemmas.{whole_of, absorbed_to, none_of}
-use Rattle.warm_history.proofs.maps.MapPairLemmas.{IsHistory-kept}
+use Rattle.warm_history.proofs.maps.KeptPairLemmas.{IsHistory-kept}
 use Rattle.warm_history.proofs.history.History.absorb.Goals as goal
 
 pub returns-clause-exact : goal.returns-clause-exact

@@ -1,7 +1,7 @@
 use Rattle.std.proofs.Common.{◌∙◌}
 use Rattle.std.proofs.lemmas.Iterator.Consumers.{nth_from_yields_List, YieldsList-from_first}
 use Rattle.warm_history.specs.Histories.{entries_of}
-use Rattle.warm_history.proofs.maps.MapPairLemmas.{as_it_is}
+use Rattle.warm_maps.proofs.MapPairLemmas.{as_it_is}
 use Rattle.warm_history.proofs.history.History.at.Goals as goal
 
 pub returns : goal.returns

@@ -4,11 +4,11 @@ use Rattle.warm_history.specs.Losses.{MarksLosing}
 use Rattle.warm_history.specs.ReferenceSets.{◌∪◌}
 use Rattle.warm_history.specs.ListHistories.{list_references_of}
 use Rattle.warm_history.specs.Histories.{HistoryView, entries_of, history_of_entries_at, references_of, history}
-use Rattle.warm_history.specs.maps.MapPairs.{kept}
+use Rattle.warm_history.specs.maps.KeptPairs.{kept}
 use Rattle.warm_history.proofs.JoinLemmas.{history_first}
 use Rattle.warm_history.proofs.ChangeLemmas.{marks_cut, nothing_changed}
 use Rattle.warm_history.proofs.RaiseLemmas.{none_taken, joined_to, none_of, whole_of}
-use Rattle.warm_history.proofs.maps.MapPairLemmas.{IsHistory-kept}
+use Rattle.warm_history.proofs.maps.KeptPairLemmas.{IsHistory-kept}
 use Rattle.warm_history.proofs.history.History.join.Goals as goal
 
 -- nothing that was taken in is older than the horizon

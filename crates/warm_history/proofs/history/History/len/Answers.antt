@@ -1,6 +1,6 @@
 use Rattle.std.proofs.Common.{length, ap, subst, ◌∙◌}
 use Rattle.warm_history.specs.Histories.{IsHistory, entries_of}
-use Rattle.warm_history.proofs.maps.MapPairLemmas.{length_kept}
+use Rattle.warm_history.proofs.maps.KeptPairLemmas.{length_kept}
 use Rattle.warm_history.proofs.RaiseLemmas.{whole_of}
 use Rattle.warm_history.proofs.history.History.len.Goals as goal
 

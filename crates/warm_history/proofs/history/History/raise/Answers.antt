@@ -1,7 +1,7 @@
 use Rattle.std.proofs.Common.{[], ap, ◌∙◌}
 use Rattle.warm_history.specs.ReferenceSets.{with_horizon}
 use Rattle.warm_history.specs.Histories.{HistoryView, references_of, history}
-use Rattle.warm_history.specs.maps.MapPairs.{kept}
+use Rattle.warm_history.specs.maps.KeptPairs.{kept}
 use Rattle.warm_history.proofs.JoinLemmas.{history_first}
 use Rattle.warm_history.proofs.RaiseLemmas.{whole_of, raised_to, none_of}
 use Rattle.warm_history.proofs.history.History.raise.Goals as goal

@@ -1,9 +1,10 @@
 use Rattle.std.proofs.Common.{sym, subst}
 use Rattle.std.specs.List.Sorted.{IsPermutation}
 use Rattle.std.proofs.lemmas.List.Sorted.{IsPermutation-sym}
-use Rattle.warm_history.specs.maps.MapPairs.{as_entries, kept}
+use Rattle.warm_maps.specs.MapPairs.{as_entries}
+use Rattle.warm_history.specs.maps.KeptPairs.{kept}
 use Rattle.warm_history.specs.Histories.{entries_of}
-use Rattle.warm_history.proofs.maps.MapPairLemmas.{permuted_kept}
+use Rattle.warm_history.proofs.maps.KeptPairLemmas.{permuted_kept}
 use Rattle.warm_history.proofs.history.History.unordered.Goals as goal
 
 pub returns : goal.returns

@@ -1,5 +1,5 @@
 use Rattle.std.proofs.Common.{◌∙◌, arith}
-use Rattle.warm_history.specs.maps.MapPairs.{kept}
+use Rattle.warm_history.specs.maps.KeptPairs.{kept}
 use Rattle.warm_history.proofs.maps.MergeIterLemmas.{two_halves, of_all_buckets}
 use Rattle.warm_history.proofs.maps.merge_iter.merged_entries.Goals as goal
 

@@ -1,6 +1,5 @@
 use Rattle.std.proofs.Common.{rules}
-use Rattle.warm_history.proofs.maps.MergeIterLemmas.{takes_other}
-use Rattle.warm_history.proofs.maps.MergeIterLemmas.{takes_one}
+use Rattle.warm_history.proofs.maps.MergeIterLemmas.{takes_other, takes_one}
 use Rattle.warm_history.proofs.maps.merge_iter.take_smaller.Goals as goal
 
 pub returns-then-is_later-clause-first : goal.returns-then-is_later-clause-first

@@ -1,6 +1,6 @@
 use Rattle.std.proofs.Common.{ap, sym, ◌∙◌}
-use Rattle.warm_history.specs.maps.Undo.{undone}
-use Rattle.warm_history.proofs.maps.MapPairLemmas.{undone_last}
+use Rattle.warm_maps.specs.Undo.{undone}
+use Rattle.warm_maps.proofs.MapPairLemmas.{undone_last}
 use Rattle.warm_history.proofs.maps.take_in.put_all_back.Goals as goal
 
 pub loop-note-preserved : goal.loop-note-preserved

@@ -1,5 +1,5 @@
 use Rattle.std.proofs.Common.{◌≡◌, vec_len}
-use Rattle.warm_history.specs.maps.Undo.{undone}
+use Rattle.warm_maps.specs.Undo.{undone}
 use Rattle.warm_history.proofs.maps.take_in.put_all_back.Given as goal
 
 abbrev pub invariant-loop-note : goal.invariant-loop-note

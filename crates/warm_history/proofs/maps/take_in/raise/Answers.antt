@@ -1,7 +1,9 @@
 use Rattle.std.proofs.Common.{sym, ap, subst, ◌∙◌}
-use Rattle.warm_history.specs.maps.MapPairs.{kept, AreKept}
+use Rattle.warm_history.specs.maps.KeptPairs.{kept}
+use Rattle.warm_maps.specs.MapPairs.{AreKept}
 use Rattle.warm_history.proofs.KeptLemmas.{entries_recent}
-use Rattle.warm_history.proofs.maps.CutLemmas.{cut_kept, kept_left}
+use Rattle.warm_history.proofs.maps.KeptCuts.{cut_kept}
+use Rattle.warm_maps.proofs.CutLemmas.{kept_left}
 use Rattle.warm_history.proofs.maps.take_in.raise.Goals as goal
 
 pub returns-then-horizon-time-clause-cut : goal.returns-then-horizon-time-clause-cut

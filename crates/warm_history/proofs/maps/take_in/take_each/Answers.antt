@@ -1,12 +1,12 @@
 use Rattle.std.proofs.Common.{refl, ◌∙◌, subst, sym}
 use Rattle.std.specs.Iterator.{IsFinite}
-use Rattle.warm_history.specs.declared.hist.Entry.{Entry}
+use Rattle.warm_maps.specs.declared.hist.Entry.{Entry}
 use Rattle.warm_history.specs.ReferenceSets.{references_from}
 use Rattle.warm_history.specs.Changes.{MarksChanged}
 use Rattle.warm_history.specs.ListHistories.{references_of_entry}
-use Rattle.warm_history.specs.maps.MapKeys.{key_of_page}
-use Rattle.warm_history.specs.maps.MapPairs.{kept, PairsTakeIn, TakesRecent}
-use Rattle.warm_history.proofs.maps.MapPairLemmas.{IsHistory-kept}
+use Rattle.warm_maps.specs.MapKeys.{key_of_page}
+use Rattle.warm_history.specs.maps.KeptPairs.{kept, PairsTakeIn, TakesRecent}
+use Rattle.warm_history.proofs.maps.KeptPairLemmas.{IsHistory-kept}
 use Rattle.warm_history.proofs.ChangeLemmas.{grows_same, marks_empty, takes_more}
 use Rattle.warm_history.proofs.maps.RecentLemmas.{takes_no_entries, takes_last}
 use Rattle.warm_history.proofs.maps.take_in.take_each.Goals as goal

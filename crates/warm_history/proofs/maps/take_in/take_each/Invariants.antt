@@ -1,7 +1,8 @@
 use Rattle.std.proofs.Common.{◌≡◌}
-use Rattle.warm_history.specs.maps.MapPairs.{kept, AreKept, TakesEntries}
+use Rattle.warm_history.specs.maps.KeptPairs.{kept, TakesEntries}
+use Rattle.warm_maps.specs.MapPairs.{AreKept}
 use Rattle.warm_history.specs.Changes.{MarksChanged}
-use Rattle.warm_history.specs.maps.Undo.{undone}
+use Rattle.warm_maps.specs.Undo.{undone}
 use Rattle.warm_history.proofs.ChangeLemmas.{Grows}
 use Rattle.warm_history.proofs.maps.take_in.take_each.Given as goal
 

@@ -1,7 +1,8 @@
 use Rattle.std.proofs.Common.{◌∙◌}
 use Rattle.std.proofs.lemmas.Iterator.Consumers.{YieldsList-from_first}
 use Rattle.warm_history.specs.ListHistories.{list_references_of}
-use Rattle.warm_history.specs.maps.MapPairs.{as_entries, kept}
+use Rattle.warm_maps.specs.MapPairs.{as_entries}
+use Rattle.warm_history.specs.maps.KeptPairs.{kept}
 use Rattle.warm_history.proofs.maps.JoinTakes.{marks_all, takes_all}
 use Rattle.warm_history.proofs.maps.RecentLemmas.{references_by_recent, takes_yielded}
 use Rattle.warm_history.proofs.maps.take_in.take_pairs.Goals as goal

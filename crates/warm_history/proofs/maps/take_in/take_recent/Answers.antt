@@ -1,8 +1,8 @@
 use Rattle.std.proofs.Common.{arith}
-use Rattle.warm_history.specs.maps.MapKeys.{key_of_page}
-use Rattle.warm_history.specs.maps.MapPairs.{kept}
+use Rattle.warm_maps.specs.MapKeys.{key_of_page}
+use Rattle.warm_history.specs.maps.KeptPairs.{kept}
 use Rattle.warm_history.proofs.ChangeLemmas.{marks_empty}
-use Rattle.warm_history.proofs.maps.NearKeys.{page_back}
+use Rattle.warm_maps.proofs.NearKeys.{page_back}
 use Rattle.warm_history.proofs.maps.RecentLemmas.{takes_none, takes_some}
 use Rattle.warm_history.proofs.maps.take_in.take_recent.Goals as goal
 

@@ -1,11 +1,11 @@
 use Rattle.std.proofs.Common.{rules, tests, List, map, ap, ◌++◌, ◌∙◌}
 use Rattle.std.proofs.lemmas.Iterator.{YieldsList-from_slice, YieldsList-from_map}
 use Rattle.warm_stamps.specs.declared.Reference.{Reference}
-use Rattle.warm_history.specs.declared.hist.PageHist.TheVariants.{Once}
-use Rattle.warm_history.specs.declared.hist.Entry.{Entry}
+use Rattle.warm_maps.specs.declared.hist.PageHist.TheVariants.{Once}
+use Rattle.warm_maps.specs.declared.hist.Entry.{Entry}
 use Rattle.warm_history.specs.ReferenceSets.{references_from}
 use Rattle.warm_history.specs.ListHistories.{list_references_of, list_history}
-use Rattle.warm_history.specs.maps.MapPairs.{kept}
+use Rattle.warm_history.specs.maps.KeptPairs.{kept}
 use Rattle.warm_history.proofs.maps.RecentLemmas.{takes_yielded, references_as_entries}
 use Rattle.warm_history.proofs.maps.take_in.take_references.Goals as goal
 

@@ -1,0 +1,11 @@
+use Rattle.std.proofs.Common.{rules, Ok, to_z, of_z, w32}
+use Rattle.warm_shards.specs.Visits.{offer_visit}
+use Rattle.warm_c.specs.Handles.{Surely}
+use Rattle.warm_c.specs.Visits.{BeginsVisit}
+use Rattle.warm_c.proofs.HandleLemmas.{called}
+use Rattle.warm_c.proofs.visit_exports.visit_offer.Goals as goal
+
+pub returns : goal.returns
+returns c =
+    called (Surely (BeginsVisit offer_visit)) c.args.handle.now.held.visit c.put_back.new.handle.held.visit (to_z w32 (of_z w32 c.put_back.result))
+    c.deref_mut.result.now c.offer.new.self (Ok tt) (search rules) (search rules) c.offer.ensures (search rules)

@@ -1,9 +1,0 @@
-use Rattle.std.proofs.Common.{◌≡◌, ◌++◌, drop}
-use Rattle.warm_history.specs.maps.Runs.{AreNear, near_run}
-use Rattle.warm_history.proofs.maps.runs.recent_pairs.Given as goal
-
-abbrev pub invariant-loop-entry : goal.invariant-loop-entry
-invariant-loop-entry l = record {
-  near : AreNear (drop l.entry-index l.run);
-  goes_on : l.pairs.items ++ near_run l.horizon (drop l.entry-index l.run) ≡ near_run l.horizon l.run;
-}

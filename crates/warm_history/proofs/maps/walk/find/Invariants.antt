@@ -1,5 +1,0 @@
-use Rattle.warm_history.specs.maps.Walks.{HoldsFrom, pairs_ahead}
-use Rattle.warm_history.proofs.maps.walk.find.Given as goal
-
-abbrev pub invariant-loop-step : goal.invariant-loop-step
-invariant-loop-step l = HoldsFrom l.key (pairs_ahead l.ahead) l.map.entries

@@ -1,0 +1,13 @@
+pub mod LatestTwo
+pub mod PageHists
+pub mod LaterPages
+pub mod MapKeys
+pub mod MapPairs
+pub mod NearPairs
+pub mod PackedHists
+pub mod BucketMaps
+pub mod Cuts
+pub mod Undo
+pub mod Runs
+pub mod Walks
+pub mod NearJoins
