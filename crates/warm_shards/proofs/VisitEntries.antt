@@ -1,9 +1,7 @@
 -- What a visit becomes as it enters a node.
-use Rattle.std.proofs.Common.{◌≡◌, ◌≢◌, inl, inr, ℕ, ◌+◌, ◌<◌, ◌≤◌, Bool, true, false, List, [], ◌∷◌, ◌++◌, length, refl, sym, ap, subst, ◌∙◌, arith}
+use Rattle.std.proofs.Common.{◌≡◌, ◌≢◌, inl, inr, ℕ, ◌+◌, ◌<◌, ◌≤◌, Bool, true, false, List, [], ◌∷◌, ◌++◌, refl, sym, ap, subst, ◌∙◌, arith}
 use Rattle.std.specs.Prelude.{IfSome, None, Option, Some, if◌then◌else◌, nat_lt}
 use Rattle.std.proofs.lemmas.Bool.{cases_eq, ltb-false, ltb-true}
-use Rattle.warm_stamps.specs.declared.PageId.{PageId}
-use Rattle.warm_history.specs.ReferenceSets.{ReferenceSet}
 use Rattle.warm_pool.specs.Unchanged.{KeepsBytes}
 use Rattle.warm_gossip.specs.declared.call.Call.TheVariants as call
 use Rattle.warm_gossip.specs.declared.call.Reply.TheVariants as reply
@@ -13,9 +11,9 @@ use Rattle.warm_shards.specs.Given.{IsGiven, IsSame, at_horizon}
 use Rattle.warm_shards.specs.declared.giving.Parts.{Parts}
 use Rattle.warm_shards.specs.declared.visit.Work.{Work}
 use Rattle.warm_shards.specs.declared.visit.Work.TheVariants.{Give, Raise, Read}
-use Rattle.warm_shards.specs.VisitParts.{IsFirstPart, IsPlace, IsReader, IsVisit, after_of, earlier, give_from, made_of, part_at, parts_count, raise_from, visit_of, work_from}
+use Rattle.warm_shards.specs.VisitParts.{IsFirstPart, IsPlace, IsReader, IsVisit, after_of, earlier, give_from, made_of, part_at, raise_from, visit_of, work_from}
 use Rattle.warm_shards.specs.VisitReads.{HasReadOne, IsReadMade}
-use Rattle.warm_shards.specs.Visits.{After, Ask, Enters, Errand, HasEntered, Made, Said, Takes, VisitState, answered, answers_of, at_shard, begun, copy_of, copying, ends, entries_for, entries_for_all, entries_left, entries_unless, gathered, given, giving, joined, keeps, next_shard, offer_in, offering, onward, raise_plan, refused, sending, shard_next}
+use Rattle.warm_shards.specs.Visits.{After, Ask, Errand, HasEntered, Made, VisitState, answered, answers_of, at_shard, begun, copy_of, copying, ends, entries_for, entries_left, entries_unless, gathered, given, giving, joined, keeps, next_shard, offer_in, offering, onward, raise_plan, refused, sending, shard_next}
 use Rattle.warm_shards.proofs.VisitPlans.{give_end, give_here, give_skip, raise_begun, raise_end, raise_here}
 
 -- ---- the next shard

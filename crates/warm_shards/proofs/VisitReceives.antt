@@ -1,10 +1,10 @@
 -- Digests and requests that shards receive by a visit.
-use Rattle.std.proofs.Common.{◌≡◌, inl, ℕ, ◌<◌, ◌≤◌, Bool, true, false, List, [], length, Result, Ok, Err, max, refl, sym, ap, subst, ◌∙◌, arith}
+use Rattle.std.proofs.Common.{◌≡◌, inl, ℕ, ◌<◌, ◌≤◌, Bool, true, false, List, [], length, Result, Ok, Err, refl, sym, ap, subst, ◌∙◌, arith}
 use Rattle.std.specs.Prelude.{IfErr, IfOk, None, Some, nat_lt}
 use Rattle.std.proofs.lemmas.Bool.{ltb-false, ltb-true}
 use Rattle.warm_history.specs.Entry.{Entry}
-use Rattle.warm_history.specs.ReferenceSets.{ReferenceSet, set_of_list, ◌∪◌}
-use Rattle.warm_history.specs.Histories.{HistoryView, StandsFor, history, references_of}
+use Rattle.warm_history.specs.ReferenceSets.{set_of_list, ◌∪◌}
+use Rattle.warm_history.specs.Histories.{StandsFor, history, references_of}
 use Rattle.warm_history.proofs.HistoryLemmas.{IsHistory-history}
 use Rattle.warm_history.proofs.JoinLemmas.{history_of_own_references, raised_to_no_later}
 use Rattle.warm_frames.specs.Limits.{horizon_in}
@@ -15,7 +15,6 @@ use Rattle.warm_gossip.specs.declared.fault.NodeFault.{NodeFault}
 use Rattle.warm_gossip.specs.declared.call.Call.TheVariants.{Offer, Receive}
 use Rattle.warm_gossip.specs.declared.call.Reply.TheVariants.{Answers, Refused, Sent}
 use Rattle.warm_gossip.specs.State.{NodeState, NodeView, empty_node, node_view}
-use Rattle.warm_pool.specs.View.{PoolView, view_of}
 use Rattle.warm_peer.specs.Answers.{IsAnswer, refs_in}
 use Rattle.warm_shards.specs.Clauses.{KeepPools, SameShards, TakesInFirst, Together}
 use Rattle.warm_shards.specs.Given.{AreGiven, Gives, OffersAll, ReceivesAll, at_horizon}
