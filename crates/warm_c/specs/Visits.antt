@@ -11,11 +11,11 @@ use Rattle.warm_frames.specs.Encoding.{Encodes}
 use Rattle.warm_frames.specs.Reading.{GivesReading, read_frame, reserved_by}
 use Rattle.warm_gossip.specs.declared.fault.NodeFault.{NodeFault}
 use Rattle.warm_gossip.specs.declared.fault.NodeFault.TheVariants.{Memory}
-use Rattle.warm_shards.specs.Shards.{IsShardCount}
-use Rattle.warm_shards.specs.VisitMessages.{final_message, first_message, idle_visit}
-use Rattle.warm_shards.specs.VisitMessages.{resumed, without_message}
-use Rattle.warm_shards.specs.Visits.{HasEntered, VisitState, absorb_visit, copy_of, join_visit}
-use Rattle.warm_shards.specs.Visits.{kept_of, next_shard, offer_visit, receive_visit, result_of}
+use Rattle.warm_visits.specs.ShardNumbers.{IsShardCount}
+use Rattle.warm_visits.specs.VisitMessages.{final_message, first_message, idle_visit}
+use Rattle.warm_visits.specs.VisitMessages.{resumed, without_message}
+use Rattle.warm_visits.specs.Visits.{HasEntered, VisitState, absorb_visit, copy_of, join_visit}
+use Rattle.warm_visits.specs.Visits.{kept_of, next_shard, offer_visit, receive_visit, result_of}
 use Rattle.warm_c_base.specs.declared.status.Refusal.{Refusal}
 use Rattle.warm_c_base.specs.declared.status.Refusal.TheVariants.{AlreadyOpen, BadReplica}
 use Rattle.warm_c_base.specs.declared.status.Refusal.TheVariants.{BadShards, Closed, Dump, Frame}

@@ -1,5 +1,5 @@
 //! The visit that an open handle of visits holds.
-use warm_shards::Visit;
+use warm_visits::Visit;
 
 /// A call of a whole replica, which enters one shard after the other.
 #[derive(Drop)]

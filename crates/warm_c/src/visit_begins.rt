@@ -1,7 +1,7 @@
 //! The calls of an open handle that begin a visit, in place of the one before.
 ghost use Rattle.std.specs.Prelude.{◌≡◌, None};
-ghost use Rattle.warm_shards.specs.VisitMessages.{idle_visit};
-ghost use Rattle.warm_shards.specs.Visits.{copy_visit, raise_visit};
+ghost use Rattle.warm_visits.specs.VisitMessages.{idle_visit};
+ghost use Rattle.warm_visits.specs.Visits.{copy_visit, raise_visit};
 ghost use Rattle.warm_c.specs.Visits.{BeginsAbsorb, BeginsLoad, BeginsOffer, BeginsReceive};
 ghost use Rattle.warm_c.specs.Visits.{BeginsVisit};
 
@@ -14,7 +14,7 @@ use warm_c_base::{Descriptor, FileReader, Refusal, WarmReference};
 use warm_dump::read_dump;
 use warm_frames::decode;
 use warm_history::laws::prove_is_history;
-use warm_shards::Visit;
+use warm_visits::Visit;
 
 impl OpenVisit {
     /// Begins [`Visit::absorb`].

@@ -3,7 +3,7 @@
 ghost use Rattle.std.specs.Prelude.{◌≡◌, None, Some, IfErr, OnOk};
 ghost use Rattle.std.specs.Io.KnownBytes.{Appends};
 ghost use Rattle.warm_dump.specs.Dumps.{dump_of};
-ghost use Rattle.warm_shards.specs.VisitMessages.{final_message};
+ghost use Rattle.warm_visits.specs.VisitMessages.{final_message};
 ghost use Rattle.warm_c.specs.Calls.{SaveRefused};
 ghost use Rattle.warm_c.specs.Visits.{EntersIf, HandsOut, HandsOutNext, ListsCopy, SavesCopy};
 ghost use Rattle.warm_c.specs.Visits.{SaysKept, SaysResult, wanted_shard};

@@ -4,7 +4,7 @@
 //! An open handle has one visit after the other, of one replica in so many shards. Between two of
 //! them it is idle: it names no shard, and has made nothing.
 ghost use Rattle.std.specs.Prelude.{◌≡◌, Bool, None, Some};
-ghost use Rattle.warm_shards.specs.Visits.{copy_visit, raise_visit};
+ghost use Rattle.warm_visits.specs.Visits.{copy_visit, raise_visit};
 ghost use Rattle.warm_c.specs.Handles.{OnHandle, Surely};
 ghost use Rattle.warm_c.specs.Visits.{BeginsAbsorb, BeginsLoad, BeginsOffer, BeginsReceive};
 ghost use Rattle.warm_c.specs.Visits.{BeginsVisit, EndsVisit, EntersNode, HandsOutNext, ListsCopy};
@@ -20,7 +20,7 @@ use std::alloc::Global;
 use std::mem::swap;
 use warm_c_base::{Descriptor, Refusal, WarmPage, WarmReference, status_of};
 use warm_gossip::NodeFault;
-use warm_shards::{Visit, is_shard_count};
+use warm_visits::{Visit, is_shard_count};
 use warm_stamps::ReplicaId;
 
 /// Opens a closed handle of visits of this replica, in so many shards. Its visit is idle.

@@ -6,9 +6,9 @@ use Rattle.std.proofs.lemmas.List.{length-append}
 use Rattle.std.proofs.Math.Seq.{get_or-append_seam}
 use Rattle.std.proofs.lemmas.List.Elements.{All-from_recursion}
 use Rattle.warm_stamps.specs.declared.Reference.{Reference}
-use Rattle.warm_shards.specs.Parts.{part_of_batch}
-use Rattle.warm_shards.specs.Shards.{shard_of}
-use Rattle.warm_shards.proofs.Dividing.{part_is_own}
+use Rattle.warm_visits.specs.Parts.{part_of_batch}
+use Rattle.warm_visits.specs.ShardNumbers.{shard_of}
+use Rattle.warm_visits.proofs.PartListLemmas.{part_is_own}
 use Rattle.warm_concurrent.specs.Whole.{ArePartsOf}
 
 -- a shard's part has pages of that shard alone

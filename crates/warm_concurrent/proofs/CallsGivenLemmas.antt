@@ -9,9 +9,9 @@ use Rattle.warm_history.specs.References.{IsIn}
 use Rattle.warm_history.specs.Histories.{references_of}
 use Rattle.warm_turn.specs.CallHistories.{as_spent}
 use Rattle.warm_peer.specs.Answers.{refs_in}
-use Rattle.warm_shards.specs.Parts.{part_of_batch}
-use Rattle.warm_shards.specs.Shards.{of_first_shards, of_shard, shard_of}
-use Rattle.warm_shards.proofs.Lists.{from_filter, in_both, in_filter, in_first, in_second}
+use Rattle.warm_visits.specs.Parts.{part_of_batch}
+use Rattle.warm_visits.specs.ShardNumbers.{of_first_shards, of_shard, shard_of}
+use Rattle.warm_visits.proofs.Lists.{from_filter, in_both, in_filter, in_first, in_second}
 use Rattle.warm_shard_machine.specs.declared.calls.ShardCall.{ShardCall}
 use Rattle.warm_shard_machine.specs.declared.calls.ShardCall.TheVariants.{Absorb, Answer, CopyHistory, Offer, Raise, TakeIn}
 use Rattle.warm_shard_machine.specs.declared.calls.ShardReply.{ShardReply}

@@ -4,7 +4,7 @@ use Rattle.std.proofs.lemmas.Bool.{cases_eq}
 use Rattle.std.proofs.lemmas.List.{length-append}
 use Rattle.warm_stamps.specs.declared.TheConstants.{BUCKETS}
 use Rattle.warm_frames.specs.Digests.{digest_at}
-use Rattle.warm_shards.specs.Digests.{FillsShard}
+use Rattle.warm_visits.specs.Digests.{FillsShard}
 use Rattle.warm_concurrent.specs.declared.answering.Offered.{Offered}
 use Rattle.warm_concurrent.specs.Answering.{FirstGave, IsGathered, IsLatest, no_offer, offer_at}
 use Rattle.warm_concurrent.specs.Attached.{KeepsOtherPasses, ShardPass, shard_pass}

@@ -8,9 +8,10 @@ use Rattle.warm_frames.specs.declared.message.Message.{Message}
 use Rattle.warm_frames.specs.declared.message.Message.TheVariants.{Entries, Digest, Want}
 use Rattle.warm_machine.specs.Runs.{operation}
 use Rattle.warm_peer.specs.Answers.{refs_in}
-use Rattle.warm_shards.specs.Parts.{part_of_batch, part_of_message}
-use Rattle.warm_shards.specs.Shards.{IsShardCount, of_shard}
-use Rattle.warm_shards.proofs.AreShardsLemmas.{some_count}
+use Rattle.warm_shards.specs.Parts.{part_of_message}
+use Rattle.warm_visits.specs.Parts.{part_of_batch}
+use Rattle.warm_visits.specs.ShardNumbers.{IsShardCount, of_shard}
+use Rattle.warm_visits.proofs.ErrandLemmas.{some_count}
 use Rattle.warm_shards.proofs.WholeParts.{message_part}
 use Rattle.warm_shard_machine.specs.declared.calls.ShardCall.{ShardCall}
 use Rattle.warm_shard_machine.specs.declared.calls.ShardCall.TheVariants.{Absorb, Answer, Offer, Raise}

@@ -10,7 +10,7 @@ use Rattle.warm_turn.specs.CallHistories.{as_spent}
 use Rattle.warm_turn.proofs.PassLemmas.{Extended-called, Widened-joined}
 use Rattle.warm_frames.specs.declared.message.Message.{Message}
 use Rattle.warm_stamps.specs.declared.Reference.{Reference}
-use Rattle.warm_shards.specs.Parts.{part_of_batch}
+use Rattle.warm_visits.specs.Parts.{part_of_batch}
 use Rattle.warm_shard_machine.specs.declared.calls.ShardCall.{ShardCall}
 use Rattle.warm_shard_machine.specs.declared.calls.ShardCall.TheVariants.{Absorb, Answer, CopyHistory, Offer}
 use Rattle.warm_shard_machine.specs.declared.calls.ShardReply.{ShardReply}

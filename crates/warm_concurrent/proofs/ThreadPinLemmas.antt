@@ -9,7 +9,7 @@ use Rattle.warm_frames.specs.declared.message.Message.{Message}
 use Rattle.warm_machine.specs.Runs.{operation}
 use Rattle.warm_turn.specs.declared.table.EndedPass.{EndedPass}
 use Rattle.warm_turn.specs.CallHistories.{as_ended}
-use Rattle.warm_shards.specs.Parts.{part_of_batch}
+use Rattle.warm_visits.specs.Parts.{part_of_batch}
 use Rattle.warm_shard_machine.specs.declared.calls.ShardCall.{ShardCall}
 use Rattle.warm_shard_machine.specs.declared.calls.ShardCall.TheVariants.{Absorb, Answer, CopyHistory, Offer, Pin, PinFilled, PinZeroed, Raise}
 use Rattle.warm_shard_machine.specs.declared.calls.ShardReply.{ShardReply}

@@ -21,7 +21,8 @@ use Rattle.warm_turn.specs.Shares.{IsWhole}
 use Rattle.warm_peer.specs.Answers.{refs_in}
 use Rattle.warm_gossip.specs.State.{NodeState}
 use Rattle.warm_gossip.specs.Victims.{IsEvicted}
-use Rattle.warm_shards.specs.Shards.{AreShards, IsShardCount, of_first_shards, shard_at, whole}
+use Rattle.warm_shards.specs.Shards.{AreShards, shard_at, whole}
+use Rattle.warm_visits.specs.ShardNumbers.{IsShardCount, of_first_shards}
 use Rattle.warm_concurrent.specs.declared.answering.Offered.{Offered}
 use Rattle.warm_shard_machine.specs.declared.calls.ShardCall.{ShardCall}
 use Rattle.warm_shard_machine.specs.declared.calls.ShardCall.TheVariants.{Absorb, Raise, Pin, Look}

@@ -7,7 +7,7 @@ use Rattle.warm_frames.specs.declared.message.Message.{Message}
 use Rattle.warm_frames.specs.declared.message.Message.TheVariants.{Entries}
 use Rattle.warm_frames.specs.Limits.{entries_in, horizon_in}
 use Rattle.warm_gossip.specs.declared.fault.NodeFault.TheVariants.{Memory}
-use Rattle.warm_shards.specs.Parts.{AreShardParts, part_of_batch, part_of_entries}
+use Rattle.warm_visits.specs.Parts.{AreShardParts, part_of_batch, part_of_entries}
 use Rattle.warm_shard_machine.specs.declared.calls.ShardCall.TheVariants.{Absorb, Raise, TakeIn}
 use Rattle.warm_shard_machine.specs.declared.calls.ShardCall.TheVariants.{WritePages, WriteBack}
 use Rattle.warm_shard_machine.specs.declared.calls.ShardCall.{ShardCall}

@@ -17,7 +17,7 @@ use std::sync::Wait;
 use warm_devices::PageDevice;
 use warm_gossip::NodeFault;
 use warm_shard_machine::{Shard, ShardCall, ShardReply};
-use warm_shards::parts_of;
+use warm_visits::parts_of;
 use warm_stamps::{PageList, RefList, Reference};
 use warm_turn::{Pass, Turn};
 

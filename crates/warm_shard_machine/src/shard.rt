@@ -2,7 +2,7 @@
 ghost use Rattle.std.specs.Prelude.{◌≡◌, ◌↔◌, IfOk, IsTrue};
 ghost use Rattle.std.specs.List.{All};
 ghost use Rattle.warm_peer.specs.Answers.{requested_messages};
-ghost use Rattle.warm_shards.specs.Shards.{IsShardCount, shard_of};
+ghost use Rattle.warm_visits.specs.ShardNumbers.{IsShardCount, shard_of};
 ghost use Rattle.warm_shard_machine.specs.ShardSteps.{AnsweredAs, AreOwnBuckets, IsOwn, ShardStep};
 ghost use Rattle.warm_shard_machine.specs.declared.calls.ShardCall.TheVariants.{Answer, Change};
 ghost use Rattle.warm_shard_machine.specs.declared.calls.ShardCall.TheVariants.{Look, Offer};
@@ -26,7 +26,7 @@ use warm_gossip::{Node, NodeFault};
 use warm_history::Entry;
 use warm_peer::SentPortion;
 use warm_pool::{NamesPage, Slot};
-use warm_shards::shard_of;
+use warm_visits::shard_of;
 use warm_stamps::{BUCKETS, Bucket, BucketSet, ByteList, Items, PageId};
 use warm_turn::Machine;
 
@@ -55,7 +55,7 @@ impl<D: PageDevice> Drop for Shard<D> {
 }
 
 impl<D: PageDevice> Model for Shard<D> {
-    ghost use Rattle.warm_shards.specs.Shards.{IsShardCount};
+    ghost use Rattle.warm_visits.specs.ShardNumbers.{IsShardCount};
     ghost use Rattle.warm_shard_machine.specs.ShardSteps.{ShardState};
 
     ghost Value = { ShardState };

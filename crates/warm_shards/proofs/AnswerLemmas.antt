@@ -22,10 +22,11 @@ use Rattle.warm_peer.specs.Since.{BringsHeld, HasMoreSince, sent_since}
 use Rattle.warm_peer.proofs.SinceLemmas.{brings_held}
 use Rattle.warm_gossip.specs.State.{NodeState}
 use Rattle.warm_shards.specs.Clauses.{SameShards, Together, TogetherAnswered}
-use Rattle.warm_shards.specs.Digests.{FillsShard}
+use Rattle.warm_visits.specs.Digests.{FillsShard}
 use Rattle.warm_shards.specs.Shards.{AreShards, as_node, held, shard_at, whole}
 use Rattle.warm_shards.proofs.AreShardsLemmas.{some_shards}
-use Rattle.warm_shards.proofs.Buckets.{sent_since_whole, since_entries, since_whole, sent_whole, shard_horizon}
+use Rattle.warm_shards.proofs.Buckets.{sent_since_whole, since_whole, sent_whole, shard_horizon}
+use Rattle.warm_visits.proofs.PartEntryLemmas.{since_entries}
 use Rattle.warm_shards.proofs.Calls.{read_at, same_histories, same_ids, same_whole}
 use Rattle.warm_shards.proofs.DigestLemmas.{AreGathered, digest_whole, gathered_more}
 use Rattle.std.proofs.lemmas.Bool.{ltb-false, ltb-true}

@@ -4,8 +4,10 @@ use Rattle.std.proofs.lemmas.Bool.{eqb-true}
 use Rattle.std.proofs.lemmas.Nat.{ones_le_self}
 use Rattle.std.proofs.lemmas.List.{length-set}
 use Rattle.warm_gossip.specs.State.{NodeState}
-use Rattle.warm_shards.specs.Shards.{AreShards, IsShard, IsShardCount, no_shard, shard_at}
+use Rattle.warm_shards.specs.Shards.{AreShards, IsShard, no_shard, shard_at}
+use Rattle.warm_visits.specs.ShardNumbers.{IsShardCount}
 use Rattle.warm_shards.proofs.Places.{at_each as changed_at}
+use Rattle.warm_visits.proofs.ErrandLemmas.{some_count}
 
 -- what is true of the new shard and of the others is true of each
 pub at_each : (P : ℕ → NodeState → Type 0) (ns : List NodeState) (i : ℕ) (m : NodeState)
@@ -34,11 +36,6 @@ still_shards ns i m are lt new =
     let long : length (set ns i m) ≡ length ns = length-set ns i m in
     let shard : (k : ℕ) → k < length ns → IsShard (length ns) number latest k (shard_at (set ns i m) k) = at_each (λ k n. k < length ns → IsShard (length ns) number latest k n) ns i m lt (λ less. new) (λ k other less. are.each k less) in
     all_shards number latest (set ns i m) (rw long are.count) (omega arith) (λ k less. subst (λ c. IsShard c number latest k (shard_at (set ns i m) k)) (sym long) (shard k (omega arith)))
-
-pub some_count : (count : ℕ) → IsShardCount count → 0 < count
-some_count count valid =
-    let one : count_ones count ≡ 1 = eqb-true (count_ones count) 1 valid.0 in
-    omega (arith, ones_le_self count)
 
 pub some_shards : (ns : List NodeState) → AreShards ns → 0 < length ns
 some_shards ns are = some_count (length ns) are.count

@@ -27,10 +27,12 @@ use Rattle.warm_gossip.specs.Clauses.{Goes}
 use Rattle.warm_gossip.specs.Step.{IsNextWarm, nth_page}
 use Rattle.warm_gossip.proofs.VictimLemmas.{KeepsPages, frames_after}
 use Rattle.warm_shards.specs.Clauses.{KeepPools, SameShards}
-use Rattle.warm_shards.specs.Shards.{AreShards, HoldsPagesOf, IsShard, held, no_shard, shard_at, shard_of, whole}
+use Rattle.warm_shards.specs.Shards.{AreShards, HoldsPagesOf, IsShard, held, no_shard, shard_at, whole}
+use Rattle.warm_visits.specs.ShardNumbers.{shard_of}
 use Rattle.warm_shards.proofs.AreShardsLemmas.{all_shards, at_each}
 use Rattle.warm_shards.proofs.Places.{read_at as at_place}
 use Rattle.warm_shards.proofs.Pages.{all_held, all_pages, all_taken, each_has}
+use Rattle.warm_visits.proofs.GivenLemmas.{bytes_same}
 
 -- ---- pools that stay
 
@@ -40,9 +42,6 @@ bytes_after a b c x y = record {
   bytes = λ k. y.bytes k ∙ x.bytes k;
   dirty = λ k. y.dirty k ∙ x.dirty k;
 }
-
-pub bytes_same : (a : PoolState) → KeepsBytes a a
-bytes_same a = record { devices = refl; bytes = λ k. refl; dirty = λ k. refl }
 
 pub keep_then : (a b c : List NodeState) → KeepPools a b → KeepPools b c → KeepPools a c
 keep_then a b c x y = record {
@@ -189,12 +188,6 @@ next_is_own count i n p old next =
     let all : AllByRecursion own (distinct falls (pages R)) = all_of_has own (distinct falls (pages R)) (λ q has. each_has own (pages R) q named (has_from_distinct falls order (pages R) q has)) in
     let hottest = hottest_pages R (length n.pool.frames) in
     subst own next.2 (each_nth own hottest next.0 (all_take own (length n.pool.frames) (distinct falls (pages R)) all) next.1)
-
-pub absorb_refused : (n m : NodeState) (batch : List Reference) (why : NodeFault)
-    → Goes n (Absorb batch) (Refused why) m → (why ≡ Memory) × (node_view m ≡ node_view n)
-absorb_refused n m batch Memory same = (refl, same)
-absorb_refused n m batch (Pool why) none = absurd none
-absorb_refused n m batch StaleSlot none = absurd none
 
 -- the shard at an index, as the code reads it
 pub read_at : (ns : List NodeState) (i : ℕ) (n d : NodeState) → i < length ns → n ≡ get_or ns i d

@@ -19,14 +19,17 @@ use Rattle.warm_gossip.specs.declared.fault.NodeFault.TheVariants.{Memory}
 use Rattle.warm_gossip.specs.Clauses.{Answered, DevicesAnswered, JoinsEntries, SameView, done}
 use Rattle.warm_gossip.specs.State.{NodeState, NodeView, empty_node, node_view}
 use Rattle.warm_shards.specs.Clauses.{HasPart, TakesInFirst}
-use Rattle.warm_shards.specs.Given.{AreGiven, Gives, GivesOne, IsGiven, IsSame, at_horizon}
-use Rattle.warm_shards.specs.Shards.{AreShards, IsShard, IsShardCount, no_shard, of_first_shards, of_shard, shard_at, shard_of, whole}
+use Rattle.warm_shards.specs.Given.{AreGiven, Gives}
+use Rattle.warm_visits.specs.Given.{GivesOne, IsGiven, IsSame, at_horizon}
+use Rattle.warm_shards.specs.Shards.{AreShards, IsShard, no_shard, shard_at, whole}
+use Rattle.warm_visits.specs.ShardNumbers.{IsShardCount, of_first_shards, of_shard, shard_of}
 use Rattle.warm_shards.proofs.AreShardsLemmas.{all_shards, at_each, some_shards}
 use Rattle.warm_shards.proofs.Buckets.{shard_horizon}
-use Rattle.warm_shards.proofs.Calls.{absorb_refused, bytes_after, bytes_same, keep_then, read_at, takes_shard}
-use Rattle.warm_shards.proofs.Dividing.{only_part, other_part, part_is_own}
-use Rattle.warm_shards.proofs.Lists.{filter_none, filter_within}
-use Rattle.warm_shards.proofs.PartLemmas.{no_part}
+use Rattle.warm_shards.proofs.Calls.{bytes_after, keep_then, read_at, takes_shard}
+use Rattle.warm_visits.proofs.GivenLemmas.{absorb_refused, bytes_same}
+use Rattle.warm_visits.proofs.PartListLemmas.{only_part, other_part, part_is_own}
+use Rattle.warm_visits.proofs.Lists.{filter_none, filter_within}
+use Rattle.warm_visits.proofs.PartLemmas.{no_part}
 use Rattle.warm_shards.proofs.WholeParts.{parts_taken}
 
 -- ---- the step
@@ -304,20 +307,3 @@ raised_gives old mid new time S (Err why) at raised gives = record {
   refused = (gives.refused.0, first_raised old mid new time S at raised gives.refused.1);
   pools = keep_then old mid new raised.pools gives.pools;
 }
-
--- ---- a batch, and entries
-
-pub absorbs : (batch : List Reference) (n m : NodeState) (result : Result Unit NodeFault)
-    → Answered n (Absorb batch) done result m → DevicesAnswered n (Absorb batch) done result m
-    → GivesOne (set_of_list batch) n result m
-absorbs batch n m (Ok given) step devices = record { given = (step, devices); refused = tt }
-absorbs batch n m (Err why) step devices =
-    let refused = absorb_refused n m batch why step in
-    record { given = tt; refused = (refused.0, (refused.1, devices)) }
-
-pub joins : (horizon : ℕ) (es : List Entry) (n m : NodeState) (result : Result Unit NodeFault)
-    → OnOk result (JoinsEntries n horizon es m)
-    → IfErr result (λ why. (why ≡ Memory) × SameView n m) → KeepsBytes n.pool m.pool
-    → GivesOne (references_of (history_of_entries_at horizon es)) n result m
-joins horizon es n m (Ok given) joined refused devices = record { given = (joined, devices); refused = tt }
-joins horizon es n m (Err why) joined refused devices = record { given = tt; refused = (refused.0, (refused.1, devices)) }

@@ -16,7 +16,8 @@ use Rattle.warm_gossip.specs.declared.call.Reply.TheVariants.{Done, Sent, Answer
 use Rattle.warm_gossip.specs.State.{NodeView}
 use Rattle.warm_gossip.proofs.VictimLemmas.{KeepsPages, fixes_change, refused}
 use Rattle.warm_shards.specs.Laws.{BringsOwn, FailuresStayInShard, StepsStayInShard}
-use Rattle.warm_shards.specs.Shards.{HoldsPagesOf, shard_of}
+use Rattle.warm_shards.specs.Shards.{HoldsPagesOf}
+use Rattle.warm_visits.specs.ShardNumbers.{shard_of}
 use Rattle.warm_shards.proofs.Calls.{HasOnly, next_is_own, only_kept, only_put, takes_own}
 use Rattle.warm_shards.proofs.Pages.{all_held}
 use Rattle.warm_shards.proofs.EachShardLemmas.{vacant}

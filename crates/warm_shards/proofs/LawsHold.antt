@@ -11,7 +11,8 @@ use Rattle.warm_gossip.specs.State.{empty_node, node_view}
 use Rattle.warm_gossip.specs.Victims.{IsEvicted}
 use Rattle.warm_gossip.proofs.VictimLemmas.{KeepsPages, PutsPage, frames_after, step_leads, victim_left}
 use Rattle.warm_shards.specs.Laws.{FirstAreGiven, ShardVictimsAreFarthest, ShardsStand, WholeIsOfGiven}
-use Rattle.warm_shards.specs.Shards.{as_node, of_first_shards, shard_at, whole}
+use Rattle.warm_shards.specs.Shards.{as_node, shard_at, whole}
+use Rattle.warm_visits.specs.ShardNumbers.{of_first_shards}
 use Rattle.warm_shards.proofs.DigestLemmas.{digest_whole}
 use Rattle.warm_shards.proofs.StandsForLemmas.{shard_stands}
 use Rattle.warm_shards.proofs.Victims.{victim_whole}

@@ -7,8 +7,10 @@ use Rattle.warm_stamps.specs.declared.PageId.{PageId}
 use Rattle.warm_rank.specs.Laws.{pages_in}
 use Rattle.warm_pool.specs.View.{FrameView, view_of}
 use Rattle.warm_gossip.specs.State.{NodeState}
-use Rattle.warm_shards.specs.Shards.{AreOpened, AreShards, IsOpened, IsShard, held, no_shard, shard_at, shard_of, whole}
-use Rattle.warm_shards.proofs.AreShardsLemmas.{all_shards, some_count}
+use Rattle.warm_shards.specs.Shards.{AreOpened, AreShards, IsOpened, IsShard, held, no_shard, shard_at, whole}
+use Rattle.warm_visits.specs.ShardNumbers.{shard_of}
+use Rattle.warm_shards.proofs.AreShardsLemmas.{all_shards}
+use Rattle.warm_visits.proofs.ErrandLemmas.{some_count}
 use Rattle.warm_shards.proofs.WholeLemmas.{none_joined}
 
 abbrev no_frame : FrameView

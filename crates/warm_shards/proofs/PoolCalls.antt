@@ -17,7 +17,8 @@ use Rattle.warm_gossip.specs.Clauses.{Answered, Goes, NodeWriteBackFails, SameVi
 use Rattle.warm_gossip.specs.Lending.{relent_node}
 use Rattle.warm_gossip.specs.State.{NodeState, NodeView, node_view}
 use Rattle.warm_gossip.proofs.VictimLemmas.{fixes_change, refused}
-use Rattle.warm_shards.specs.Shards.{AreShards, IsShard, shard_at, shard_of}
+use Rattle.warm_shards.specs.Shards.{AreShards, IsShard, shard_at}
+use Rattle.warm_visits.specs.ShardNumbers.{shard_of}
 use Rattle.warm_shards.proofs.Calls.{HasOnly, next_is_own, only_kept, only_put, pool_shard, read_at}
 use Rattle.warm_shards.proofs.AreShardsLemmas.{still_shards}
 

@@ -11,7 +11,7 @@ use Rattle.warm_shards.specs.Clauses.{TakesInAll, TakesInFirst}
 use Rattle.warm_shards.specs.Given.{Gives}
 use Rattle.warm_shards.specs.Shards.{whole}
 use Rattle.warm_shards.specs.VisitLaws.{EndsAlone, GivingIsOneNode}
-use Rattle.warm_shards.specs.Visits.{VisitState, answers_of, result_of}
+use Rattle.warm_visits.specs.Visits.{VisitState, answers_of, result_of}
 use Rattle.warm_shards.proofs.VisitSweeps.{alone_absorbs, alone_gives, alone_raises}
 
 ends_so : (well : VisitState → List NodeState → Type 0) (S : ReferenceSet) (old new : List NodeState)

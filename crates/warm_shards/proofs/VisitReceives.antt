@@ -17,10 +17,12 @@ use Rattle.warm_gossip.specs.declared.call.Reply.TheVariants.{Answers, Refused, 
 use Rattle.warm_gossip.specs.State.{NodeState, NodeView, empty_node, node_view}
 use Rattle.warm_peer.specs.Answers.{IsAnswer, refs_in}
 use Rattle.warm_shards.specs.Clauses.{KeepPools, SameShards, TakesInFirst, Together}
-use Rattle.warm_shards.specs.Given.{AreGiven, Gives, OffersAll, ReceivesAll, at_horizon}
-use Rattle.warm_shards.specs.Shards.{AreShards, held, of_first_shards, of_shard, shard_at, whole}
+use Rattle.warm_shards.specs.Given.{AreGiven, Gives, OffersAll, ReceivesAll}
+use Rattle.warm_visits.specs.Given.{at_horizon}
+use Rattle.warm_shards.specs.Shards.{AreShards, held, shard_at, whole}
+use Rattle.warm_visits.specs.ShardNumbers.{of_first_shards, of_shard}
 use Rattle.warm_shards.specs.VisitLaws.{EndsAlone, GoesAlone, ReceivesAlone}
-use Rattle.warm_shards.specs.Visits.{HasEntries, VisitState, answers_of, next_shard, offer_in, offer_visit, receive_visit, result_of}
+use Rattle.warm_visits.specs.Visits.{HasEntries, VisitState, answers_of, next_shard, offer_in, offer_visit, receive_visit, result_of}
 use Rattle.warm_shards.proofs.AreShardsLemmas.{some_shards}
 use Rattle.warm_shards.proofs.Calls.{same_keeps, same_none}
 use Rattle.warm_shards.proofs.GivenLemmas.{beyond}

@@ -1,5 +1,5 @@
 use Rattle.std.proofs.Common.{◌≡◌, ℕ, ◌<◌, List, [], ◌∷◌, ◌++◌, length, sym, subst, arith}
-use Rattle.warm_shards.proofs.AreShardsLemmas.{some_count}
+use Rattle.warm_visits.proofs.ErrandLemmas.{some_count}
 use Rattle.warm_concurrent.specs.declared.answering.Offered.{Offered}
 use Rattle.warm_concurrent.specs.Answering.{Offers, OffersFirst, no_offer}
 use Rattle.warm_concurrent.proofs.GatheredOfferLemmas.{AreGathered, all_gathered, first_gathered, more_gathered, none_gave, one_gave}

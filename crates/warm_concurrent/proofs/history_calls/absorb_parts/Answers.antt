@@ -3,8 +3,8 @@ use Rattle.std.specs.List.{All}
 use Rattle.std.proofs.lemmas.Bool.{eqb-false, eqb-true}
 use Rattle.std.proofs.lemmas.List.{length-append, nil_from_length}
 use Rattle.warm_stamps.specs.declared.Reference.{Reference}
-use Rattle.warm_shards.specs.Parts.{part_of_batch}
-use Rattle.warm_shards.specs.Shards.{shard_of}
+use Rattle.warm_visits.specs.Parts.{part_of_batch}
+use Rattle.warm_visits.specs.ShardNumbers.{shard_of}
 use Rattle.warm_shard_machine.specs.declared.calls.ShardCall.TheVariants.{Absorb}
 use Rattle.warm_shard_machine.specs.declared.calls.ShardReply.TheVariants.{Done}
 use Rattle.warm_concurrent.specs.Attached.{known_of}

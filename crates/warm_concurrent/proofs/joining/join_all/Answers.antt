@@ -1,5 +1,5 @@
 use Rattle.std.proofs.Common.{◌<◌, inl, length, refl, arith}
-use Rattle.warm_shards.proofs.AreShardsLemmas.{some_count}
+use Rattle.warm_visits.proofs.ErrandLemmas.{some_count}
 use Rattle.warm_concurrent.specs.Whole.{TakesPart, history_message}
 use Rattle.warm_concurrent.proofs.WholeCallLemmas.{none_first}
 use Rattle.warm_concurrent.proofs.joining.join_all.Goals as goal

@@ -2,7 +2,7 @@ use Rattle.std.proofs.Common.{◌≡◌, ◌<◌, ◌≤◌, length, true, ap, s
 use Rattle.warm_frames.specs.Limits.{horizon_in}
 use Rattle.warm_gossip.specs.State.{NodeState}
 use Rattle.warm_shards.specs.Shards.{shard_at, whole}
-use Rattle.warm_shards.specs.Visits.{receive_visit}
+use Rattle.warm_visits.specs.Visits.{receive_visit}
 use Rattle.warm_shards.proofs.AnswerLemmas.{not_later}
 use Rattle.warm_shards.proofs.AreShardsLemmas.{some_shards}
 use Rattle.warm_shards.proofs.Calls.{read_at}

@@ -2,7 +2,7 @@ use Rattle.std.proofs.Common.{◌≡◌, length, sym, ap, ◌∙◌, arith}
 use Rattle.std.proofs.lemmas.Result.{err_from_is_err_and}
 use Rattle.warm_gossip.specs.State.{NodeState}
 use Rattle.warm_shards.specs.Shards.{shard_at}
-use Rattle.warm_shards.specs.Visits.{offer_visit}
+use Rattle.warm_visits.specs.Visits.{offer_visit}
 use Rattle.warm_shards.proofs.AreShardsLemmas.{some_shards}
 use Rattle.warm_shards.proofs.Calls.{read_at}
 use Rattle.warm_shards.proofs.VisitReceives.{going_if, offers_all, offers_none, offers_refused, offers_so, offers_some, stopped_if}

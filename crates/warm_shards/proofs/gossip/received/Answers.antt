@@ -7,9 +7,10 @@ use Rattle.warm_gossip.specs.declared.fault.NodeFault.{NodeFault}
 use Rattle.warm_peer.specs.Answers.{refs_in}
 use Rattle.warm_gossip.specs.declared.fault.NodeFault.TheVariants.{Memory}
 use Rattle.warm_gossip.specs.State.{NodeState}
-use Rattle.warm_shards.specs.Given.{AreGiven, ReceivesAll, at_horizon}
+use Rattle.warm_shards.specs.Given.{AreGiven, ReceivesAll}
+use Rattle.warm_visits.specs.Given.{at_horizon}
 use Rattle.warm_shards.specs.Shards.{shard_at}
-use Rattle.warm_shards.specs.Visits.{receive_visit}
+use Rattle.warm_visits.specs.Visits.{receive_visit}
 use Rattle.warm_shards.proofs.AreShardsLemmas.{some_shards}
 use Rattle.warm_shards.proofs.Calls.{read_at}
 use Rattle.warm_shards.proofs.GivenLemmas.{raised_gives, raised_late}

@@ -1,6 +1,6 @@
 use Rattle.std.proofs.Common.{◌≡◌, Ok, Err, Some, None, sym, ap, subst, ◌∙◌, arith}
 use Rattle.warm_shards.specs.VisitLaws.{GoesAlone}
-use Rattle.warm_shards.specs.Visits.{VisitState, result_of}
+use Rattle.warm_visits.specs.Visits.{VisitState, result_of}
 use Rattle.warm_shards.specs.Shards.{whole}
 use Rattle.warm_shards.proofs.VisitSweeps.{alone_raises}
 use Rattle.warm_shards.proofs.history_calls.raise_all.Goals as goal

@@ -1,6 +1,6 @@
 use Rattle.std.proofs.Common.{◌≡◌, ◌<◌, List, length, sym, subst}
 use Rattle.warm_gossip.specs.State.{NodeState}
-use Rattle.warm_shards.specs.Shards.{shard_of}
+use Rattle.warm_visits.specs.ShardNumbers.{shard_of}
 use Rattle.warm_shards.proofs.PoolCalls.{after_call}
 use Rattle.warm_shards.proofs.EngineCalls.{flushed_own}
 use Rattle.warm_shards.proofs.shards.Shards.flush_device.Goals as goal

@@ -1,7 +1,7 @@
 use Rattle.std.proofs.Common.{◌≡◌, ◌<◌, List, length, sym, ap, subst, ◌∙◌}
 use Rattle.warm_gossip.specs.declared.call.Call.TheVariants.{Pin}
 use Rattle.warm_gossip.specs.State.{NodeState}
-use Rattle.warm_shards.specs.Shards.{shard_of}
+use Rattle.warm_visits.specs.ShardNumbers.{shard_of}
 use Rattle.warm_shards.proofs.PoolCalls.{after_call, pinned_own, refused_own}
 use Rattle.warm_shards.proofs.shards.Shards.pin.Goals as goal
 

@@ -1,6 +1,6 @@
 use Rattle.std.proofs.Common.{◌≡◌, ◌<◌, List, length, sym, ap, subst, ◌∙◌}
 use Rattle.warm_gossip.specs.State.{NodeState}
-use Rattle.warm_shards.specs.Shards.{shard_of}
+use Rattle.warm_visits.specs.ShardNumbers.{shard_of}
 use Rattle.warm_shards.proofs.PoolCalls.{after_call}
 use Rattle.warm_shards.proofs.EngineCalls.{unzeroed_own, zeroed_own}
 use Rattle.warm_shards.proofs.shards.Shards.pin_zeroed.Goals as goal

@@ -1,7 +1,7 @@
 use Rattle.std.proofs.Common.{◌≡◌, ◌<◌, List, length, sym, subst}
 use Rattle.warm_pool.proofs.FlushLemmas.{if_err, if_ok}
 use Rattle.warm_gossip.specs.State.{NodeState}
-use Rattle.warm_shards.specs.Shards.{shard_of}
+use Rattle.warm_visits.specs.ShardNumbers.{shard_of}
 use Rattle.warm_shards.proofs.PoolCalls.{after_call}
 use Rattle.warm_shards.proofs.EngineCalls.{retired_own}
 use Rattle.warm_shards.proofs.shards.Shards.retire.Goals as goal

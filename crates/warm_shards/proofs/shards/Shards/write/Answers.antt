@@ -1,5 +1,5 @@
 use Rattle.std.proofs.Common.{◌≡◌, length, arith}
-use Rattle.warm_shards.specs.Shards.{shard_of}
+use Rattle.warm_visits.specs.ShardNumbers.{shard_of}
 use Rattle.warm_shards.proofs.PoolCalls.{after_call, written_own}
 use Rattle.warm_shards.proofs.shards.Shards.write.Goals as goal
 
