@@ -13,7 +13,6 @@ use Rattle.warm_history.proofs.ChangeLemmas.{same_bucket}
 use Rattle.warm_history.proofs.HistoryLemmas.{IsHistory-history, entries-history, horizon-history}
 use Rattle.warm_history.proofs.JoinLemmas.{history_of_own_references}
 use Rattle.warm_history.proofs.ListHistoryLemmas.{get, get-history}
-use Rattle.warm_history.proofs.SinceLemmas.{history-since}
 use Rattle.warm_gossip.specs.State.{NodeState}
 use Rattle.warm_shards.specs.Shards.{AreShards, held, shard_at, whole}
 use Rattle.warm_shards.proofs.WholeLemmas.{hist_whole, whole_horizon}

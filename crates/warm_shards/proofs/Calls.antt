@@ -4,7 +4,6 @@ use Rattle.std.specs.List.{AllByRecursion}
 use Rattle.std.specs.Ordering.{flip_args}
 use Rattle.std.proofs.lemmas.List.{length-set}
 use Rattle.warm_stamps.specs.declared.PageId.{PageId}
-use Rattle.warm_stamps.specs.declared.Reference.{Reference}
 use Rattle.warm_stamps.specs.Distinct.{distinct}
 use Rattle.warm_stamps.proofs.DistinctLemmas.{all_of_has, all_take, has_from_distinct}
 use Rattle.warm_stamps.proofs.StampLemmas.{IsStrictOrder-flip}
@@ -19,11 +18,6 @@ use Rattle.warm_pool.specs.Pinning.{PutsIn}
 use Rattle.warm_pool.specs.State.{PoolState}
 use Rattle.warm_pool.specs.View.{PoolView, frame_at, view_of}
 use Rattle.warm_gossip.specs.State.{NodeState, NodeView, node_view}
-use Rattle.warm_gossip.specs.declared.call.Call.TheVariants.{Absorb}
-use Rattle.warm_gossip.specs.declared.call.Reply.TheVariants.{Refused}
-use Rattle.warm_gossip.specs.declared.fault.NodeFault.{NodeFault}
-use Rattle.warm_gossip.specs.declared.fault.NodeFault.TheVariants.{Memory, Pool, StaleSlot}
-use Rattle.warm_gossip.specs.Clauses.{Goes}
 use Rattle.warm_gossip.specs.Step.{IsNextWarm, nth_page}
 use Rattle.warm_gossip.proofs.VictimLemmas.{KeepsPages, frames_after}
 use Rattle.warm_shards.specs.Clauses.{KeepPools, SameShards}

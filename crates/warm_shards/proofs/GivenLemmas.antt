@@ -1,22 +1,19 @@
 -- If each shard is given its part of a set of references, all together are given the set.
 use Rattle.std.proofs.Common.{◌≡◌, ◌⊎◌, inl, inr, ℕ, zero, suc, ◌+◌, ◌<◌, ◌≤◌, Bool, true, false, List, [], ◌∷◌, length, max, set, get_or, Result, Ok, Err, refl, sym, ap, subst, ◌∙◌, arith}
-use Rattle.std.specs.Prelude.{nat_eq, nat_lt, IfErr, OnOk}
+use Rattle.std.specs.Prelude.{nat_eq, nat_lt}
 use Rattle.std.specs.List.{AllByRecursion}
 use Rattle.std.proofs.lemmas.Bool.{cases_eq, eqb-true, le-ltb, lt-ltb, ltb-false, ltb-true}
 use Rattle.std.proofs.lemmas.List.{length-set}
 use Rattle.warm_stamps.specs.declared.PageId.{PageId}
 use Rattle.warm_stamps.specs.declared.Reference.{Reference}
-use Rattle.warm_history.specs.Entry.{Entry}
-use Rattle.warm_history.specs.ReferenceSets.{ReferenceSet, set_of_list, ◌∪◌}
-use Rattle.warm_history.specs.Histories.{HistoryView, IsHistory, history, history_of_entries_at, references_of}
+use Rattle.warm_history.specs.ReferenceSets.{ReferenceSet, ◌∪◌}
+use Rattle.warm_history.specs.Histories.{HistoryView, IsHistory, history, references_of}
 use Rattle.warm_history.proofs.HistoryLemmas.{horizon-history}
 use Rattle.warm_history.proofs.JoinLemmas.{both_assoc, history_first, raised_to_no_later}
 use Rattle.warm_pool.specs.Unchanged.{KeepsBytes}
 use Rattle.warm_pool.specs.View.{view_of}
-use Rattle.warm_gossip.specs.declared.call.Call.TheVariants.{Absorb}
 use Rattle.warm_gossip.specs.declared.fault.NodeFault.{NodeFault}
 use Rattle.warm_gossip.specs.declared.fault.NodeFault.TheVariants.{Memory}
-use Rattle.warm_gossip.specs.Clauses.{Answered, DevicesAnswered, JoinsEntries, SameView, done}
 use Rattle.warm_gossip.specs.State.{NodeState, NodeView, empty_node, node_view}
 use Rattle.warm_shards.specs.Clauses.{HasPart, TakesInFirst}
 use Rattle.warm_shards.specs.Given.{AreGiven, Gives}
@@ -26,7 +23,7 @@ use Rattle.warm_visits.specs.ShardNumbers.{IsShardCount, of_first_shards, of_sha
 use Rattle.warm_shards.proofs.AreShardsLemmas.{all_shards, at_each, some_shards}
 use Rattle.warm_shards.proofs.Buckets.{shard_horizon}
 use Rattle.warm_shards.proofs.Calls.{bytes_after, keep_then, read_at, takes_shard}
-use Rattle.warm_visits.proofs.GivenLemmas.{absorb_refused, bytes_same}
+use Rattle.warm_visits.proofs.GivenLemmas.{bytes_same}
 use Rattle.warm_visits.proofs.PartListLemmas.{only_part, other_part, part_is_own}
 use Rattle.warm_visits.proofs.Lists.{filter_none, filter_within}
 use Rattle.warm_visits.proofs.PartLemmas.{no_part}

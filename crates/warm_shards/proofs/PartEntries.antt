@@ -1,24 +1,16 @@
 -- The references that a part of a batch or of entries holds.
-use Rattle.std.proofs.Common.{◌≡◌, ◌≢◌, ℕ, Bool, List, [], ◌∷◌, ◌++◌, length, map, arith, nat_eq, not, refl, sym, ap, ◌∙◌}
+use Rattle.std.proofs.Common.{◌≡◌, ℕ, Bool, List, arith, nat_eq, not, refl}
 use Rattle.std.specs.Ordering.{on}
 use Rattle.std.specs.List.{All}
 use Rattle.std.proofs.lemmas.List.Elements.{All-from_recursion}
 use Rattle.std.proofs.lemmas.List.Filters.{length-filter_both}
 use Rattle.warm_stamps.specs.Stamps.{page_cmp}
 use Rattle.warm_stamps.proofs.DistinctLemmas.{rising_filter}
-use Rattle.warm_stamps.specs.declared.Reference.{Reference}
-use Rattle.warm_stamps.specs.declared.Stamp.{Stamp}
 use Rattle.warm_history.specs.Entry.{Entry}
-use Rattle.warm_history.specs.PageHist.{PageHist}
-use Rattle.warm_history.specs.PageHist.TheVariants.{Once, Twice}
-use Rattle.warm_history.specs.ReferenceSets.{set_of_list}
-use Rattle.warm_history.specs.Histories.{history_of_entries_at, references_of}
-use Rattle.warm_history.specs.ListHistories.{hist_stamps, list_references_of, references_of_entry}
 use Rattle.warm_frames.specs.Entries.{FitsInFrame, IsEntryList}
-use Rattle.warm_visits.specs.ShardNumbers.{of_shard, shard_of}
-use Rattle.warm_visits.specs.Parts.{part_of_batch, part_of_entries}
+use Rattle.warm_visits.specs.ShardNumbers.{shard_of}
+use Rattle.warm_visits.specs.Parts.{part_of_entries}
 use Rattle.warm_visits.proofs.PartListLemmas.{part_is_own}
-use Rattle.warm_visits.proofs.PartEntryLemmas.{parts_hold}
 
 abbrev is_own : ℕ → ℕ → Entry → Bool
 is_own shards shard e = nat_eq (shard_of shards e.page) shard

@@ -1,8 +1,7 @@
 -- A visit that nobody interrupts: all shards are raised, and then each is given its part.
-use Rattle.std.proofs.Common.{◌≡◌, ◌≢◌, ◌⊎◌, inl, inr, ℕ, zero, suc, ◌+◌, ◌-◌, ◌<◌, Bool, true, false, List, [], ◌∷◌, ◌++◌, length, max, min, set, refl, sym, ap, subst, ◌∙◌, arith}
+use Rattle.std.proofs.Common.{◌≡◌, ◌≢◌, ◌⊎◌, inl, inr, ℕ, zero, suc, ◌+◌, ◌<◌, Bool, true, false, List, [], ◌∷◌, ◌++◌, length, max, min, set, refl, sym, ap, subst, ◌∙◌, arith}
 use Rattle.std.specs.Prelude.{None, Some}
 use Rattle.std.proofs.lemmas.List.{append-nil, get_or-set_same}
-use Rattle.std.specs.List.{flat_map, range_with_len}
 use Rattle.warm_stamps.specs.declared.Reference.{Reference}
 use Rattle.warm_history.specs.ReferenceSets.{ReferenceSet, set_of_list, ◌∪◌}
 use Rattle.warm_history.specs.Histories.{HistoryView, references_of}
@@ -17,7 +16,7 @@ use Rattle.warm_shards.specs.Shards.{AreShards, no_shard, shard_at, whole}
 use Rattle.warm_visits.specs.ShardNumbers.{of_shard}
 use Rattle.warm_shards.specs.VisitLaws.{Alone, EntersAlone, GoesAlone, alone}
 use Rattle.warm_visits.specs.Plans.{give_from, raise_from}
-use Rattle.warm_visits.specs.Visits.{After, Errand, Made, NodeSays, Said, Takes, VisitState, absorb_visit, at_shard, begun, copied, ends, give_part, give_plan, give_visit, given, giving, keeps, kept_of, next_shard, nothing, offered, onward, raise_plan, raise_visit, raised, refused, result_of, sent, shard_next}
+use Rattle.warm_visits.specs.Visits.{After, Errand, Made, NodeSays, Said, Takes, VisitState, absorb_visit, at_shard, begun, copied, ends, give_plan, give_visit, given, giving, keeps, kept_of, next_shard, nothing, offered, onward, raise_plan, raise_visit, raised, refused, result_of, sent, shard_next}
 use Rattle.warm_shards.proofs.AreShardsLemmas.{some_shards}
 use Rattle.warm_shards.proofs.Buckets.{shard_horizon}
 use Rattle.warm_shards.proofs.GivenLemmas.{GivenFirst, IsNoLater, given_all, given_more, given_past, given_stays, gives_all, gives_first, none_given, raised_gives, raised_late, whole_given}

@@ -1,13 +1,10 @@
 -- If each shard has had its part, all together have had the whole.
-use Rattle.std.proofs.Common.{◌≡◌, inl, inr, ℕ, zero, suc, ◌+◌, ◌<◌, ◌≤◌, Bool, true, false, cond, List, [], ◌∷◌, ◌++◌, map, filter, length, set, take, max, nat_eq, refl, sym, ap, subst, ◌∙◌, arith, add-one, take_all}
+use Rattle.std.proofs.Common.{◌≡◌, inl, inr, ℕ, zero, suc, ◌+◌, ◌<◌, ◌≤◌, List, [], ◌++◌, length, set, take, max, refl, sym, ap, subst, ◌∙◌, arith, add-one, take_all}
 use Rattle.std.proofs.lemmas.Bool.{cases_eq}
 use Rattle.std.proofs.lemmas.List.{append-nil, ext_get_or, get_or-set_other, get_or-set_same, length-set}
-use Rattle.std.proofs.lemmas.List.Elements.{filter-append}
 use Rattle.warm_stamps.specs.declared.TheConstants.{BUCKETS}
-use Rattle.warm_stamps.specs.declared.Stamp.{Stamp}
-use Rattle.warm_stamps.specs.declared.Reference.{Reference}
 use Rattle.warm_history.specs.Entry.{Entry}
-use Rattle.warm_history.specs.ListHistories.{hist_stamps, list_references_of, references_of_entry}
+use Rattle.warm_history.specs.ListHistories.{list_references_of}
 use Rattle.warm_history.specs.ReferenceSets.{ReferenceSet, set_of_list, ◌∪◌}
 use Rattle.warm_history.specs.Histories.{HistoryView, entries_of, history, join, references_of}
 use Rattle.warm_history.proofs.JoinLemmas.{history_first}
@@ -18,7 +15,7 @@ use Rattle.warm_peer.specs.Answers.{refs_in}
 use Rattle.warm_gossip.specs.State.{NodeState, NodeView}
 use Rattle.warm_visits.specs.Digests.{FillsShard}
 use Rattle.warm_shards.specs.Shards.{AreShards, no_shard, shard_at, whole}
-use Rattle.warm_visits.specs.ShardNumbers.{IsShardCount, of_first_shards, of_shard, shard_of}
+use Rattle.warm_visits.specs.ShardNumbers.{IsShardCount, of_first_shards, of_shard}
 use Rattle.warm_shards.proofs.AreShardsLemmas.{some_shards}
 use Rattle.warm_visits.proofs.ErrandLemmas.{some_count}
 use Rattle.warm_shards.proofs.DigestLemmas.{AreGathered, all_gathered, digest_whole, gathered_more}

@@ -1,16 +1,13 @@
 -- References that are given to shards: each takes in those to its pages.
-use Rattle.std.specs.Prelude.{◌≡◌, ℕ, List, [], IfErr, IfOk, OnOk, Result}
-use Rattle.warm_history.specs.ReferenceSets.{ReferenceSet, ◌∪◌}
-use Rattle.warm_history.specs.Histories.{history, references_of}
+use Rattle.std.specs.Prelude.{◌≡◌, List, IfErr, IfOk, OnOk, Result}
+use Rattle.warm_history.specs.ReferenceSets.{ReferenceSet}
 use Rattle.warm_frames.specs.declared.message.Message.{Message}
 use Rattle.warm_peer.specs.Answers.{refs_in}
 use Rattle.warm_gossip.specs.declared.call.Call.TheVariants.{Offer, Receive}
 use Rattle.warm_gossip.specs.declared.call.Reply.TheVariants.{Answers, Sent}
-use Rattle.warm_pool.specs.Unchanged.{KeepsBytes}
 use Rattle.warm_gossip.specs.declared.fault.NodeFault.{NodeFault}
 use Rattle.warm_gossip.specs.declared.fault.NodeFault.TheVariants.{Memory}
-use Rattle.warm_gossip.specs.Clauses.{SameView}
-use Rattle.warm_gossip.specs.State.{NodeState, node_view}
+use Rattle.warm_gossip.specs.State.{NodeState}
 use Rattle.warm_shards.specs.Clauses.{KeepPools, TakesInAll, TakesInFirst, Together}
 use Rattle.warm_shards.specs.Clauses.{TogetherAnswered}
 use Rattle.warm_shards.specs.Shards.{AreShards, shard_at}

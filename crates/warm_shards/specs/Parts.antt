@@ -1,14 +1,9 @@
 -- A batch, a message or a history, by the shards of its pages.
-use Rattle.std.specs.Prelude.{◌≡◌, ℕ, ◌<◌, List, filter, length, nat_eq, slice_index_or}
-use Rattle.std.specs.Global.{Vec}
-use Rattle.warm_stamps.specs.declared.PageId.{PageId}
-use Rattle.warm_stamps.specs.declared.Reference.{Reference}
-use Rattle.warm_history.specs.Entry.{Entry}
+use Rattle.std.specs.Prelude.{ℕ}
 use Rattle.warm_history.specs.Histories.{HistoryView, entries_of, history_of_entries_at}
 use Rattle.warm_frames.specs.declared.message.Message.{Message}
 use Rattle.warm_frames.specs.declared.message.Message.TheVariants.{Entries, Digest, Want}
 use Rattle.warm_frames.specs.Limits.{entries_in, horizon_in}
-use Rattle.warm_visits.specs.ShardNumbers.{shard_of}
 use Rattle.warm_visits.specs.Parts.{part_of_entries}
 
 -- the replica that sent the message

@@ -1,12 +1,9 @@
 -- Shards: the nodes of one replica, each with the pages of its buckets. Together they are one node.
-use Rattle.std.specs.Prelude.{◌≡◌, ℕ, ◌%◌, ◌<◌, ◌≤◌, IsTrue, List, [], ◌∷◌, length, Some, nat_eq}
-use Rattle.std.specs.Prelude.{nat_lt, slice_index_or}
-use Rattle.std.specs.Int.{is_power_of_two}
+use Rattle.std.specs.Prelude.{◌≡◌, ℕ, ◌<◌, List, [], ◌∷◌, length, Some}
+use Rattle.std.specs.Prelude.{slice_index_or}
 use Rattle.std.specs.List.{All, AllByRecursion}
 use Rattle.warm_stamps.specs.declared.PageId.{PageId}
-use Rattle.warm_stamps.specs.declared.TheConstants.{BUCKETS}
-use Rattle.warm_stamps.specs.Buckets.{page_bucket}
-use Rattle.warm_history.specs.ReferenceSets.{ReferenceSet, set_of_list, filter_references, ◌∪◌}
+use Rattle.warm_history.specs.ReferenceSets.{ReferenceSet, set_of_list, ◌∪◌}
 use Rattle.warm_history.specs.Histories.{HistoryView, IsHistory, entries_of, history, references_of}
 use Rattle.warm_pool.specs.Residents.{resident_pages}
 use Rattle.warm_pool.specs.State.{fresh_pool}

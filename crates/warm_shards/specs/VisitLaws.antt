@@ -1,12 +1,11 @@
 -- The laws of visits: alone a visit is the call of the one node, and among others either way the
 -- whole has had the whole.
-use Rattle.std.specs.Prelude.{◌≡◌, ℕ, ◌%◌, ◌<◌, false, true, List, [], ◌∷◌, length, slice_set, Some}
+use Rattle.std.specs.Prelude.{◌≡◌, ℕ, false, true, List, [], length, slice_set, Some}
 use Rattle.std.specs.Prelude.{None}
-use Rattle.std.specs.List.{AllByRecursion}
 use Rattle.warm_stamps.specs.declared.Reference.{Reference}
 use Rattle.warm_history.specs.Entry.{Entry}
-use Rattle.warm_history.specs.ReferenceSets.{ReferenceSet, set_of_list, ◌∪◌}
-use Rattle.warm_history.specs.Histories.{HistoryView, history, references_of}
+use Rattle.warm_history.specs.ReferenceSets.{ReferenceSet, set_of_list}
+use Rattle.warm_history.specs.Histories.{HistoryView, references_of}
 use Rattle.warm_frames.specs.declared.message.Message.{Message}
 use Rattle.warm_frames.specs.declared.message.Message.TheVariants.{Digest, Entries, Want}
 use Rattle.warm_machine.specs.declared.operation.Operation.{Operation}
@@ -16,13 +15,11 @@ use Rattle.warm_gossip.specs.declared.call.Call.TheVariants.{Absorb, Horizon, Of
 use Rattle.warm_gossip.specs.declared.call.Reply.TheVariants.{Answers, Done, Kept, Sent}
 use Rattle.warm_gossip.specs.State.{NodeState}
 use Rattle.warm_shards.specs.Clauses.{JoinsAll, KeepPools, TakesInFirst, Together}
-use Rattle.warm_visits.specs.Given.{at_horizon}
 use Rattle.warm_shards.specs.Shards.{AreShards, shard_at, whole}
-use Rattle.warm_visits.specs.ShardNumbers.{IsShardCount, shard_of}
-use Rattle.warm_visits.specs.Visits.{Ask, Enters, Errand, Said, VisitState, absorb_visit}
-use Rattle.warm_visits.specs.Visits.{answers_of, copy_of, copy_visit, given, giving, join_visit}
+use Rattle.warm_visits.specs.Visits.{Enters, Errand, Said, VisitState, absorb_visit}
+use Rattle.warm_visits.specs.Visits.{answers_of, copy_of, copy_visit, join_visit}
 use Rattle.warm_visits.specs.Visits.{kept_of, next_shard, offer_in, offer_visit, raise_visit}
-use Rattle.warm_visits.specs.Visits.{receive_visit, sending}
+use Rattle.warm_visits.specs.Visits.{receive_visit}
 
 -- Nobody interrupts
 

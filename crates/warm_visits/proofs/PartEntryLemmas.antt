@@ -1,5 +1,5 @@
 -- The part of a shard of entries and of a batch, and the references that these stand for.
-use Rattle.std.proofs.Common.{◌≡◌, ℕ, take, Option, sym, ap, ◌∙◌, ◌+◌, Bool, true, false, cond, List, [], ◌∷◌, ◌++◌, map, filter, nat_eq, refl, ◌≢◌, length, arith}
+use Rattle.std.proofs.Common.{◌≡◌, ℕ, take, Option, sym, ap, ◌∙◌, Bool, true, false, cond, List, [], ◌∷◌, ◌++◌, map, filter, nat_eq, refl, ◌≢◌, length, arith}
 use Rattle.warm_stamps.specs.declared.PageId.{PageId}
 use Rattle.warm_history.specs.Histories.{HistoryView, IsHistory, entries_of, history, references_of, history_of_entries_at}
 use Rattle.warm_history.specs.Since.{carried_since, entries_since}
@@ -15,7 +15,6 @@ use Rattle.warm_visits.specs.Parts.{part_of_entries, part_of_batch}
 use Rattle.warm_history.specs.PageHist.{PageHist}
 use Rattle.warm_history.specs.PageHist.TheVariants.{Once, Twice}
 use Rattle.warm_history.specs.ReferenceSets.{set_of_list}
-use Rattle.warm_visits.proofs.PartEntryLemmas.{parts_hold}
 
 pub since_entries : (h : HistoryView) (bucket since : ℕ) (after : Option PageId) (limit : ℕ)
     → IsHistory h

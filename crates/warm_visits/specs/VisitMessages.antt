@@ -1,9 +1,8 @@
 -- The messages of a visit, taken out one after the other; and a visit that goes on after a refusal.
-use Rattle.std.specs.Prelude.{◌≡◌, ℕ, false, List, [], ◌∷◌, ◌++◌, Option, Some, None}
+use Rattle.std.specs.Prelude.{ℕ, false, List, [], ◌∷◌, ◌++◌, Option, Some, None}
 use Rattle.warm_frames.specs.declared.message.Message.{Message}
 use Rattle.warm_frames.specs.declared.message.Message.TheVariants.{Digest}
-use Rattle.warm_gossip.specs.State.{NodeState}
-use Rattle.warm_visits.specs.Visits.{After, Enters, Errand, Made, Said, VisitState, answered, begun}
+use Rattle.warm_visits.specs.Visits.{After, Errand, Made, VisitState, answered, begun}
 use Rattle.warm_visits.specs.Visits.{ends, gathered, raised, requests}
 
 -- a visit of a replica in so many shards that has nothing to do: it raises none of them

@@ -1,19 +1,17 @@
 -- How a visit is held: the shard of its next errand, and what it does in each.
-use Rattle.std.specs.Prelude.{◌≡◌, ◌≢◌, ℕ, zero, suc, ◌-◌, ◌<◌, ◌≤◌, Bool, false, List, [], ◌∷◌}
-use Rattle.std.specs.Prelude.{◌++◌, length, map, min, Option, Some, None}
+use Rattle.std.specs.Prelude.{◌≡◌, ◌≢◌, ℕ, zero, suc, ◌<◌, ◌≤◌, Bool, false, List, [], ◌∷◌}
+use Rattle.std.specs.Prelude.{◌++◌, length, min, Option, Some, None}
 use Rattle.std.specs.Global.{Vec}
-use Rattle.std.specs.List.{flat_map, range_with_len}
 use Rattle.warm_history.specs.ReferenceSets.{ReferenceSet, set_of_list}
 use Rattle.warm_history.specs.Histories.{history_of_entries_at, references_of}
 use Rattle.warm_visits.specs.declared.giving.Parts.{Parts}
 use Rattle.warm_visits.specs.declared.giving.Parts.TheVariants.{Batch, Entries}
 use Rattle.warm_visits.specs.declared.visit.Work.{Work}
 use Rattle.warm_visits.specs.declared.visit.Work.TheVariants.{Give, Raise, Read}
-use Rattle.warm_visits.specs.Given.{at_horizon}
 use Rattle.warm_visits.specs.ShardNumbers.{IsShardCount}
 use Rattle.warm_visits.specs.VisitReads.{IsReadMade}
-use Rattle.warm_visits.specs.Visits.{After, Errand, Made, VisitState, at_shard, ends, give_part}
-use Rattle.warm_visits.specs.Visits.{giving, nothing, raised}
+use Rattle.warm_visits.specs.Visits.{After, Errand, Made, VisitState, ends}
+use Rattle.warm_visits.specs.Visits.{nothing, raised}
 use Rattle.warm_visits.specs.Plans.{give_from, raise_from}
 
 -- Parts

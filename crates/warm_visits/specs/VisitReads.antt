@@ -1,7 +1,6 @@
 -- How a visit that reads is held: what it asks for next, and what it has.
-use Rattle.std.specs.Prelude.{◌≡◌, ℕ, ◌+◌, ◌-◌, ◌%◌, ◌^◌, ◌<◌, ◌≤◌, true, false, List, [], ◌∷◌, map}
+use Rattle.std.specs.Prelude.{◌≡◌, ℕ, ◌+◌, ◌%◌, ◌^◌, ◌<◌, ◌≤◌, true, false, List, [], ◌∷◌, map}
 use Rattle.std.specs.Prelude.{replicate, Option, Some, None, Result, Ok, Err}
-use Rattle.std.specs.List.{range_with_len}
 use Rattle.warm_stamps.specs.declared.PageId.{PageId}
 use Rattle.warm_stamps.specs.declared.TheConstants.{BUCKETS}
 use Rattle.warm_frames.specs.declared.layout.TheConstants.{DIGEST_SIZE}
@@ -16,7 +15,7 @@ use Rattle.warm_visits.specs.declared.reading.Task.{Task}
 use Rattle.warm_visits.specs.declared.reading.Task.TheVariants.{Copy, Gather, Send}
 use Rattle.warm_visits.specs.declared.sending.Sending.{Sending}
 use Rattle.warm_visits.specs.declared.sending.Wanted.{Wanted}
-use Rattle.warm_visits.specs.Visits.{After, Ask, Errand, GathersOffer, HasEntered, Made, NodeSays}
+use Rattle.warm_visits.specs.Visits.{After, Errand, GathersOffer, HasEntered, Made, NodeSays}
 use Rattle.warm_visits.specs.Visits.{VisitState, answered, at_shard, begun, compares, copying, ends}
 use Rattle.warm_visits.specs.Visits.{entries_left, gathered, joined, nothing, offered, offering}
 use Rattle.warm_visits.specs.Visits.{raised, refused, requests, sending}
