@@ -16,7 +16,7 @@
 //! - [`node_open`] and [`node_close`] create and drop the node. Each of the other functions that
 //!   take a handle returns 64 on a closed one, and changes nothing.
 //!
-//! A call of a whole replica, of one node or more, is a visit of `warm_shards`, which has a handle
+//! A call of a whole replica, of one node or more, is a visit of `warm_visits`, which has a handle
 //! of its own kind: [`visit_exports`].
 //!
 //! Devices, files, and what crosses to C by value are of `warm_c_base`. c/fd_calls.c has what is

@@ -31,7 +31,7 @@ impl OpenVisit {
         self.visit.next()
     }
 
-    /// Calls [`warm_shards::Visit::enter`], unless no shard is named.
+    /// Calls [`warm_visits::Visit::enter`], unless no shard is named.
     pub fn enter(&mut self, node: &mut OpenNode)
         ensures { EntersIf (wanted_shard self.old.visit) self.old node.old self.new node.new }
     {
