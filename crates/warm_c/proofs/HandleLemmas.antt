@@ -1,14 +1,15 @@
 -- Calls of handles, from what happens to what they hold.
 use Rattle.std.proofs.Common.{◌≡◌, ◌↔◌, ℕ, Option, Some, None, sym, subst}
 use Rattle.std.specs.Prelude.{ℤ, pos}
-use Rattle.warm_c.specs.declared.open_node.OpenNode.{OpenNode}
-use Rattle.warm_c.specs.declared.open_visit.OpenVisit.{OpenVisit}
+use Rattle.warm_c_calls.specs.declared.open_node.OpenNode.{OpenNode}
+use Rattle.warm_c_calls.specs.declared.open_visit.OpenVisit.{OpenVisit}
 use Rattle.warm_c_base.specs.declared.status.Refusal.{Refusal}
 use Rattle.warm_c_base.specs.Statuses.{code_of, status_of}
-use Rattle.warm_c.specs.Calls.{Ending}
+use Rattle.warm_c_calls.specs.Calls.{Ending}
 use Rattle.warm_c_base.specs.Values.{IsBool}
-use Rattle.warm_c.specs.Handles.{OpenRequest, OnHandle, OpenRefused, Opens}
-use Rattle.warm_c.specs.Visits.{OpensVisits, VisitsRefused}
+use Rattle.warm_c.specs.Handles.{OnHandle, Opens}
+use Rattle.warm_c_calls.specs.Opening.{OpenRequest, OpenRefused}
+use Rattle.warm_c.specs.VisitHandles.{OpensVisits, VisitsRefused}
 
 -- an open handle, which holds something before and after
 pub called : {A : Type 0} (goes : A → Ending → A → Type 0) (before after : Option A) (status : ℤ)

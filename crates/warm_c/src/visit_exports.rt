@@ -6,19 +6,20 @@
 ghost use Rattle.std.specs.Prelude.{◌≡◌, Bool, None, Some};
 ghost use Rattle.warm_visits.specs.Visits.{copy_visit, raise_visit};
 ghost use Rattle.warm_c.specs.Handles.{OnHandle, Surely};
-ghost use Rattle.warm_c.specs.Visits.{BeginsAbsorb, BeginsLoad, BeginsOffer, BeginsReceive};
-ghost use Rattle.warm_c.specs.Visits.{BeginsVisit, EndsVisit, EntersNode, HandsOutNext, ListsCopy};
-ghost use Rattle.warm_c.specs.Visits.{NamesShard, OpensVisits, SavesCopy, SaysKept, SaysResult};
+ghost use Rattle.warm_c_calls.specs.Visits.{BeginsAbsorb, BeginsLoad, BeginsOffer, BeginsReceive};
+ghost use Rattle.warm_c.specs.VisitHandles.{EndsVisit, EntersNode};
+ghost use Rattle.warm_c_calls.specs.Visits.{BeginsVisit, HandsOutNext, ListsCopy};
+ghost use Rattle.warm_c.specs.VisitHandles.{NamesShard, OpensVisits};
+ghost use Rattle.warm_c_calls.specs.Visits.{SavesCopy, SaysKept, SaysResult};
 
 use crate::called::closed;
 use crate::handle::Handle;
-use crate::message_limits::NodeLimits;
-use crate::open_visit::OpenVisit;
 use crate::visit_called::{on_visit, put_back};
 use crate::visit_handle::VisitHandle;
 use std::alloc::Global;
 use std::mem::swap;
 use warm_c_base::{Descriptor, Refusal, WarmPage, WarmReference, status_of};
+use warm_c_calls::{NodeLimits, OpenVisit};
 use warm_gossip::NodeFault;
 use warm_visits::{Visit, is_shard_count};
 use warm_stamps::ReplicaId;

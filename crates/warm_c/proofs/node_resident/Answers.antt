@@ -1,5 +1,5 @@
 use Rattle.std.proofs.Common.{rules, Ok, refl, to_z, of_z, w32}
-use Rattle.warm_c.specs.Calls.{SaysResident}
+use Rattle.warm_c_calls.specs.Calls.{SaysResident}
 use Rattle.warm_c.specs.Handles.{Surely}
 use Rattle.warm_c.proofs.HandleLemmas.{called, bool_same}
 use Rattle.warm_c.proofs.node_resident.Goals as goal

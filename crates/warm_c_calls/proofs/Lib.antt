@@ -1,0 +1,3 @@
+pub mod EngineRefusals
+pub mod FilledPinLemmas
+pub mod ListLemmas
