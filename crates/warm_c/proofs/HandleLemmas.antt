@@ -32,7 +32,3 @@ pub visits_refused : (replica shards : ℕ) (before after : Option OpenVisit) (s
     → VisitsRefused replica shards why → OpensVisits replica shards before status after
 visits_refused replica shards before after status why was is said for =
     subst (λ (o : Option OpenVisit). OpensVisits replica shards o status after) (sym was) (subst (λ (o : Option OpenVisit). OpensVisits replica shards None status o) (sym is) (why, said, for))
-
--- a bool of C that says whether P holds also says whether Q does, if each follows from the other
-pub bool_same : {P Q : Type 0} (n : ℕ) → IsBool n P → P ↔ Q → IsBool n Q
-bool_same n is same = (is.0, (λ e. same.0 (is.1.0 e), λ q. is.1.1 (same.1 q)))

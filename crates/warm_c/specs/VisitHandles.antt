@@ -12,8 +12,6 @@ use Rattle.warm_c_calls.specs.declared.open_node.OpenNode.{OpenNode}
 use Rattle.warm_c_calls.specs.declared.open_visit.OpenVisit.{OpenVisit}
 use Rattle.warm_c_calls.specs.Visits.{EntersIf, wanted_shard}
 
--- Opening
-
 -- why there are no visits of this replica in so many shards; an allocation may fail
 abbrev pub VisitsRefused : ℕ → ℕ → Refusal → Type 0
 VisitsRefused replica shards BadReplica = IsReplica replica → ⊥

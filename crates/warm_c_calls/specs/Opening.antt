@@ -11,8 +11,6 @@ use Rattle.warm_c_base.specs.declared.status.Refusal.TheVariants.{Node, NewPool,
 use Rattle.warm_c_base.specs.declared.values.WarmDevice.{WarmDevice}
 use Rattle.warm_c_calls.specs.declared.open_node.OpenNode.{OpenNode}
 
--- Opening
-
 -- what is asked of `node_open`
 pub record OpenRequest : Type 0 where
   pub replica : ℕ

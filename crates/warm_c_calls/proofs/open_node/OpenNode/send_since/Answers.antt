@@ -3,7 +3,7 @@ use Rattle.warm_frames.specs.Limits.{entries_in}
 use Rattle.warm_peer.specs.Since.{HasMoreSince}
 use Rattle.warm_c_calls.specs.Calls.{PutsFrame}
 use Rattle.warm_c_calls.specs.Since.{last_in, message_since}
-use Rattle.warm_c.proofs.HandleLemmas.{bool_same}
+use Rattle.warm_c_calls.proofs.BoolLemmas.{bool_same}
 use Rattle.warm_c_calls.proofs.open_node.OpenNode.send_since.Goals as goal
 
 pub returns : goal.returns
