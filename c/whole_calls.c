@@ -41,12 +41,14 @@ static int absorb_in_one(opened *its, const node_reference *batch, size_t count)
     return status;
 }
 
-/* A reference of the caller's is one of the proved part (layouts.h). */
+/* A reference of the caller's is one of the proved part (layouts.h). An empty batch needs no
+ * memory. */
 int warm_absorb(warm *handle, const warm_reference *references, size_t count) {
     opened *its = handle->at;
     const node_reference *batch = (const node_reference *)references;
     if (its == NULL) return WARM_CLOSED;
-    if (count == 1 || (count > 0 && its->count == 1)) return absorb_in_one(its, batch, count);
+    if (count == 0) return WARM_OK;
+    if (count == 1 || its->count == 1) return absorb_in_one(its, batch, count);
     return end_visit(its, visit_shards(its, visit_absorb(&its->calls, batch, count)));
 }
 

@@ -29,7 +29,28 @@ static void test_batches(void) {
     OK(warm_abandon(&handle));
 }
 
-/* Each shard has its own of many references; none has any, where the visit finds no memory. */
+/* An empty batch needs no memory. References of one shard are a call of its node, which has one
+ * allocation: a visit would have two. */
+static void test_small_batches(void) {
+    const warm_reference seen[] = {{.no = 3, .replica = 1}, {.no = 3, .replica = 1, .time = 1}};
+    for (size_t count = 1; count <= 4; count *= 4) {
+        const size_t most = count == 1 ? 2 : 1;
+        warm handle = {0};
+        open_shards(&handle, count);
+        granted = 0;
+        OK(warm_absorb(&handle, seen, 0));
+        MUST(warm_absorb(&handle, seen, most) == WARM_MEMORY && known(&handle) == 0);
+        granted = 1;
+        OK(warm_absorb(&handle, seen, most));
+        granted = SIZE_MAX;
+        MUST(known(&handle) == most);
+        OK(warm_abandon(&handle));
+        MUST(warm_absorb(&handle, seen, 0) == WARM_CLOSED);
+        nothing_left();
+    }
+}
+
+/* Each shard has its own of many references; none has any, if the visit finds no memory. */
 static void test_great_batches(void) {
     enum { MANY = 300 };
     static warm_reference seen[MANY];
@@ -468,6 +489,7 @@ static void test_horizons(void) {
 
 int main(void) {
     test_batches();
+    test_small_batches();
     test_great_batches();
     test_limits_of_horizons();
     test_limits_of_pages();
