@@ -415,9 +415,19 @@ int node_last_failure(node *of, bool *found, node_failure *failure) {
 
 /* ---- histories and frames ---- */
 
+/* One of the caller's, which is of another type (layouts.h): it is copied, since the fake is in one
+ * unit with it. */
+static node_reference fake_reference(const node_reference *references, size_t at) {
+    node_reference copied;
+    memcpy(&copied, &references[at], sizeof copied);
+    return copied;
+}
+
 static bool fake_replicas(const node_reference *references, size_t count) {
-    for (size_t at = 0; at < count; at++)
-        if (references[at].replica == 0 || references[at].replica > 64) return false;
+    for (size_t at = 0; at < count; at++) {
+        uint16_t replica = fake_reference(references, at).replica;
+        if (replica == 0 || replica > 64) return false;
+    }
     return true;
 }
 
@@ -437,8 +447,10 @@ int node_history_length(node *of, size_t *length) {
 static int fake_list(size_t known, node_page *pages, size_t room, size_t *count) {
     if (!fake_memory()) return WARM_MEMORY;
     *count = known < room ? known : room;
-    for (size_t at = 0; at < *count; at++)
-        pages[at] = (node_page){.no = at + 1, .dev = (uint16_t)(at + 7)};
+    for (size_t at = 0; at < *count; at++) {
+        const node_page page = {.no = at + 1, .dev = (uint16_t)(at + 7)};
+        memcpy(&pages[at], &page, sizeof page); /* so is a page of the caller's */
+    }
     return WARM_OK;
 }
 
@@ -595,8 +607,10 @@ int visit_absorb(visit *of, const node_reference *references, size_t count) {
     void *block = malloc(1);
     if (block == NULL) return WARM_MEMORY;
     fake_visit *its = fake_begin(of, FAKE_GIVING, block);
-    for (size_t at = 0; at < count; at++)
-        its->each[(references[at].dev + references[at].no) % its->shards]++;
+    for (size_t at = 0; at < count; at++) {
+        node_reference one = fake_reference(references, at);
+        its->each[(one.dev + one.no) % its->shards]++;
+    }
     return WARM_OK;
 }
 

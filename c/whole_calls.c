@@ -32,24 +32,33 @@ static int end_visit(opened *its, int status) {
 
 /* ---- history ---- */
 
+/* A reference of the caller's is one of the proved part (layouts.h), which alone reads it as that:
+ * a compiler may take what is written as one type and read as another for two objects. */
+static const node_reference *references_in(const warm_reference *references) {
+    return (const node_reference *)references;
+}
+
 /* References of one shard, that of the first of them, are a call of its node, as a pin is. */
-static int absorb_in_one(opened *its, const node_reference *batch, size_t count) {
-    shard *in = shard_of(its, (node_page){.no = batch->no, .dev = batch->dev});
+static int absorb_in_one(opened *its, const warm_reference *references, size_t count) {
+    shard *in = shard_of(its, (node_page){.no = references->no, .dev = references->dev});
     bool is_locked = enter(its, in);
-    int status = node_absorb(&in->node, batch, count);
+    int status = node_absorb(&in->node, references_in(references), count);
     leave(in, is_locked);
     return status;
 }
 
-/* A reference of the caller's is one of the proved part (layouts.h). An empty batch needs no
- * memory. */
+static int absorb_in_all(opened *its, const warm_reference *references, size_t count) {
+    int begun = visit_absorb(&its->calls, references_in(references), count);
+    return end_visit(its, visit_shards(its, begun));
+}
+
+/* An empty batch needs no memory. */
 int warm_absorb(warm *handle, const warm_reference *references, size_t count) {
     opened *its = handle->at;
-    const node_reference *batch = (const node_reference *)references;
     if (its == NULL) return WARM_CLOSED;
     if (count == 0) return WARM_OK;
-    if (count == 1 || its->count == 1) return absorb_in_one(its, batch, count);
-    return end_visit(its, visit_shards(its, visit_absorb(&its->calls, batch, count)));
+    return count == 1 || its->count == 1 ? absorb_in_one(its, references, count)
+                                         : absorb_in_all(its, references, count);
 }
 
 int warm_raise(warm *handle, uint64_t time, uint64_t *horizon) {
