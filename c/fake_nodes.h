@@ -703,7 +703,9 @@ static void fake_offer(fake_visit *its, const fake *in) {
 static void fake_send_next(fake_visit *its, const fake *in) {
     uint8_t bucket = (uint8_t)__builtin_ctzll(its->buckets);
     if (in->known > 0) {
-        fake_send(in, bucket, its->message, sizeof its->message, &its->length);
+        its->is_stopped =
+            fake_send(in, bucket, its->message, sizeof its->message, &its->length) != WARM_OK;
+        if (its->is_stopped) return;
         its->second = !its->second;
     }
     if (!its->second) its->buckets &= its->buckets - 1;

@@ -338,6 +338,31 @@ static void test_answers(void) {
     nothing_left();
 }
 
+/* Each allocation of each answer fails in turn, in a shard or as the frame is made: no answer is
+ * lost, and none comes twice. */
+static void test_refused_answers(void) {
+    const uint8_t request[10] = {FAKE_REQUEST, 3, 1, 1, 1, 1, 1, 1, 1, 1};
+    const warm_reference seen[] = {{.no = 0, .replica = 1}, {.no = 1, .replica = 1},
+        {.no = 2, .replica = 1}, {.no = 3, .replica = 1}};
+    uint8_t frame[66];
+    warm handle = {0};
+    size_t length;
+    open_shards(&handle, 4);
+    OK(warm_absorb(&handle, seen, 4));
+    OK(warm_receive(&handle, request, sizeof request));
+    for (int part = 0; part < 16; part++) {
+        length = 77;
+        frame[0] = 'x';
+        EACH_REFUSED(warm_next_answer(&handle, frame, sizeof frame, &length),
+            length == 77 && frame[0] == 'x');
+        MUST(length == FAKE_FULL && frame[0] == FAKE_ENTRIES && frame[2] == part / 2);
+    }
+    OK(warm_next_answer(&handle, frame, sizeof frame, &length));
+    MUST(length == 0);
+    OK(warm_abandon(&handle));
+    nothing_left();
+}
+
 /* ---- dumps ---- */
 
 /* Another handle calls the one shard of the replica while its dump is written, synced or read: it
@@ -499,6 +524,7 @@ int main(void) {
     test_memory();
     test_loads_in_parts();
     test_answers();
+    test_refused_answers();
     test_no_lock_during_save_and_load_of_one_shard();
     test_counts();
     test_failures();
