@@ -223,11 +223,14 @@ int warm_receive(warm *handle, const void *message, size_t length) {
     return end_visit(its, status);
 }
 
+/* Once no answer is left, the handle keeps nothing of the message. */
 int warm_next_answer(warm *handle, void *message, size_t room, size_t *length) {
     opened *its = handle->at;
     if (its == NULL) return WARM_CLOSED;
     int status = go_through(its, &its->answers);
-    return status == WARM_OK ? visit_message(&its->answers, message, room, length) : status;
+    if (status == WARM_OK) status = visit_message(&its->answers, message, room, length);
+    if (status == WARM_OK && *length == 0) visit_end(&its->answers);
+    return status;
 }
 
 /* ---- counts ---- */

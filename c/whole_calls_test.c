@@ -338,6 +338,34 @@ static void test_answers(void) {
     nothing_left();
 }
 
+/* Of a message, also of one that nothing answers, a handle keeps something until it is said that no
+ * answer waits, another message is received, or the handle is closed. */
+static void test_what_is_kept(void) {
+    const uint8_t entries[10] = {FAKE_ENTRIES, 3, 0, 0, 2}, request[10] = {FAKE_REQUEST, 3, 1, 1};
+    uint8_t frame[66];
+    warm handle = {0};
+    size_t length = 77;
+    open_shards(&handle, 4);
+    int there = blocks;
+    for (int times = 0; times < 3; times++) {
+        OK(warm_receive(&handle, times == 1 ? request : entries, 10));
+        OK(warm_receive(&handle, entries, 10));
+        MUST(blocks == there + 1);
+        OK(warm_next_answer(&handle, frame, sizeof frame, &length));
+        MUST(length == 0 && blocks == there);
+        OK(warm_next_answer(&handle, frame, sizeof frame, &length));
+        MUST(length == 0 && blocks == there);
+    }
+    OK(warm_receive(&handle, request, 10));
+    for (int part = 0; part < 4; part++) { /* two of bucket 0: shard 1 knows nothing */
+        OK(warm_next_answer(&handle, frame, sizeof frame, &length));
+        MUST(length == (part < 2 ? FAKE_FULL : 0) && blocks == there + (part < 2));
+    }
+    OK(warm_receive(&handle, entries, 10));
+    OK(warm_abandon(&handle));
+    nothing_left();
+}
+
 /* Each allocation of each answer fails in turn, in a shard or as the frame is made: no answer is
  * lost, and none comes twice. */
 static void test_refused_answers(void) {
@@ -524,6 +552,7 @@ int main(void) {
     test_memory();
     test_loads_in_parts();
     test_answers();
+    test_what_is_kept();
     test_refused_answers();
     test_no_lock_during_save_and_load_of_one_shard();
     test_counts();
