@@ -477,6 +477,9 @@ static int fake_save(size_t known, int number) {
 
 int node_save(node *of, int number) { return fake_out(of, fake_save(fake_in(of)->known, number)); }
 
+/* The horizon of a dump. */
+enum { FAKE_DUMPED = 2 };
+
 /* A dump has as many references as its length says; of a device with its own calls its last byte is
  * read. */
 static bool fake_get_dump(int number, uint64_t length) {
@@ -494,7 +497,10 @@ static int fake_load(size_t *known, int number, uint64_t length) {
 }
 
 int node_load(node *of, int number, uint64_t length) {
-    return fake_out(of, fake_load(&fake_in(of)->known, number, length));
+    fake *its = fake_in(of);
+    int status = fake_load(&its->known, number, length);
+    if (status == WARM_OK && its->horizon < FAKE_DUMPED) its->horizon = FAKE_DUMPED;
+    return fake_out(of, status);
 }
 
 static int fake_put(
@@ -642,6 +648,7 @@ int visit_load(visit *of, int number, uint64_t length) {
     if (block == NULL) return WARM_MEMORY;
     fake_visit *its = fake_begin(of, FAKE_GIVING, block);
     its->rising = 0;
+    its->time = FAKE_DUMPED;
     for (size_t number_of = 0; number_of < its->shards; number_of++)
         its->each[number_of] = read / its->shards;
     return WARM_OK;

@@ -246,22 +246,68 @@ static void test_memory(void) {
     nothing_left();
 }
 
-/* Each shard has its part of a dump, two references of eight; without memory, the first shards. */
+/* Each shard has this horizon, and they know so many pages together. */
+static bool have(warm *handle, uint64_t horizon, size_t pages) {
+    for (size_t number = 0; number < ((opened *)handle->at)->count; number++)
+        if (node_of(handle, number)->horizon != horizon) return false;
+    return known(handle) == pages;
+}
+
+/* Each shard has its part of a dump, two references. Without memory the first shards have it, and
+ * all have the dump's horizon, unless it was refused before. */
 static void test_loads_in_parts(void) {
-    warm handle = {0};
-    open_shards(&handle, 4);
-    size_t before = 0;
-    for (size_t grants = 2; grants < 6; grants++) { /* the first two open it and read */
-        granted = grants;
-        MUST(warm_load(&handle, 1, 8) == WARM_MEMORY);
-        granted = SIZE_MAX;
-        MUST(known(&handle) == before + 2 * (grants - 2));
-        before = known(&handle);
+    for (size_t count = 1; count <= 4; count *= 4) {
+        warm handle = {0}, other = {0};
+        open_shards(&handle, count);
+        OK(warm_attach(&handle, &other));
+        size_t before = 0;
+        for (size_t grants = 0; grants < 2 + count; grants++) { /* one reads, one is the visit's */
+            granted = grants;
+            MUST(warm_load(&handle, 1, 2 * count) == WARM_MEMORY);
+            granted = SIZE_MAX;
+            if (grants > 2) before += 2 * (grants - 2);
+            MUST(have(&handle, grants < 2 ? 0 : FAKE_DUMPED, before));
+        }
+        OK(warm_load(&handle, 1, 2 * count));
+        MUST(have(&handle, FAKE_DUMPED, before + 2 * count));
+        OK(warm_close(&other));
+        OK(warm_close(&handle));
+        nothing_left();
     }
-    OK(warm_load(&handle, 1, 8));
-    MUST(known(&handle) == before + 8);
+}
+
+/* The only handle of one shard loads all or nothing. */
+static void test_loads_alone(void) {
+    warm handle = {0};
+    open_shards(&handle, 1);
+    EACH_REFUSED(warm_load(&handle, 1, 2), have(&handle, 0, 0));
+    MUST(have(&handle, FAKE_DUMPED, 2));
     OK(warm_close(&handle));
     nothing_left();
+}
+
+/* The same of a message with an entry of the first shard, and one of the third if there is one. */
+static void test_receives_in_parts(void) {
+    const uint8_t entries[10] = {FAKE_ENTRIES, 3, 0, 0, 2}, digests[66] = {FAKE_DIGESTS, 5};
+    for (size_t count = 1; count <= 4; count *= 4) {
+        const size_t parts = count > 2 ? 2 : 1;
+        warm handle = {0};
+        open_shards(&handle, count);
+        for (size_t grants = 0; grants < 1 + parts; grants++) { /* the visit has one */
+            granted = grants;
+            MUST(warm_receive(&handle, entries, sizeof entries) == WARM_MEMORY);
+            granted = SIZE_MAX;
+            MUST(have(&handle, grants == 0 ? 0 : 3, grants > 1));
+        }
+        OK(warm_receive(&handle, entries, sizeof entries));
+        MUST(have(&handle, 3, parts + (parts > 1)));
+        granted = 1;
+        MUST(warm_receive(&handle, digests, sizeof digests) == WARM_MEMORY);
+        granted = SIZE_MAX;
+        MUST(have(&handle, 5, parts + (parts > 1)));
+        OK(warm_close(&handle));
+        nothing_left();
+    }
 }
 
 /* Frames that are refused, at once or by each allocation. The answers that wait still do. */
@@ -551,6 +597,8 @@ int main(void) {
     test_sending();
     test_memory();
     test_loads_in_parts();
+    test_loads_alone();
+    test_receives_in_parts();
     test_answers();
     test_what_is_kept();
     test_refused_answers();
