@@ -310,6 +310,35 @@ static void test_receives_in_parts(void) {
     }
 }
 
+/* Another handle of the one shard looks between the two steps of a call on the whole. */
+static warm looking;
+static size_t seen_pages;
+static uint64_t seen_horizon;
+
+static void look(void) {
+    seen_pages = known(&looking);
+    OK(warm_raise(&looking, 0, &seen_horizon));
+}
+
+/* First the horizon is raised, and then the shard is given its part. */
+static void test_steps_in_one_shard(void) {
+    const uint8_t entries[10] = {FAKE_ENTRIES, 9, 0, 0, 1};
+    for (int is_dump = 0; is_dump < 2; is_dump++) {
+        const uint64_t horizon = is_dump ? FAKE_DUMPED : 9;
+        warm handle = {0};
+        open_shards(&handle, 1);
+        OK(warm_attach(&handle, &looking));
+        at_unlock = look;
+        unlocks_before = 0;
+        OK(is_dump ? warm_load(&handle, 1, 1) : warm_receive(&handle, entries, sizeof entries));
+        MUST(at_unlock == NULL && seen_horizon == horizon && seen_pages == 0);
+        MUST(have(&handle, horizon, 1));
+        OK(warm_close(&looking));
+        OK(warm_close(&handle));
+        nothing_left();
+    }
+}
+
 /* Frames that are refused, at once or by each allocation. The answers that wait still do. */
 static void refuse_frames(warm *handle) {
     const uint8_t digests[66] = {FAKE_DIGESTS, 3};
@@ -599,6 +628,7 @@ int main(void) {
     test_loads_in_parts();
     test_loads_alone();
     test_receives_in_parts();
+    test_steps_in_one_shard();
     test_answers();
     test_what_is_kept();
     test_refused_answers();
