@@ -654,7 +654,7 @@ int visit_load(visit *of, int number, uint64_t length) {
     return WARM_OK;
 }
 
-/* Entries are one of shard 0 and, if there are two, one of shard 2, where there is that shard. */
+/* Entries are one of shard 0 and, if there are two, one of shard 2, if there is that shard. */
 int visit_receive(visit *of, const node_limits *limits, const uint8_t *frame, size_t length) {
     static const fake_work works[] = {FAKE_NOTHING, FAKE_GIVING, FAKE_OFFERING, FAKE_SENDING};
     if (length < 10) return WARM_TRUNCATED;

@@ -1,8 +1,9 @@
 /*
  * whole_calls.c: the calls of include/warm.h on a whole replica: its history, its messages, its
- * devices and what it has counted. What a call of the history does, and in which shard, a visit
- * decides, which is proved (nodes.h): here it is let into one shard after the other. Nothing here
- * is proved; c/check tests it.
+ * devices and what it has counted. A call of the whole history is a visit, but for those that
+ * nodes.h names: a visit, which is proved, decides what is done in which shard, and is let into one
+ * shard after the other here. If one shard is enough, it is a call of its node. What is counted is
+ * added up here. Nothing here is proved; c/check tests it.
  */
 #define _POSIX_C_SOURCE 200809L /* pthread_mutex_t */
 #include "shards.h"
@@ -204,7 +205,8 @@ int warm_limit_history(warm *handle, uint64_t horizon, size_t pages) {
     return WARM_OK;
 }
 
-/* The limits of a message. What the history knows is counted if there is one of pages. */
+/* The limits of a message. If there is one of pages, what the history knows is counted first: then
+ * any bytes, also those of no message, make a call of each shard. */
 static node_limits limits_of(warm *handle) {
     const replica *of = ((opened *)handle->at)->of;
     node_limits limits = {.time = atomic_load(&of->limit),
