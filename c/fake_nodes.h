@@ -658,6 +658,8 @@ int visit_load(visit *of, int number, uint64_t length) {
 int visit_receive(visit *of, const node_limits *limits, const uint8_t *frame, size_t length) {
     static const fake_work works[] = {FAKE_NOTHING, FAKE_GIVING, FAKE_OFFERING, FAKE_SENDING};
     if (length < 10) return WARM_TRUNCATED;
+    MUST(frame[0] >= FAKE_ENTRIES && frame[0] <= FAKE_REQUEST);
+    MUST(frame[0] != FAKE_DIGESTS || length >= 66);
     size_t entries = frame[0] == FAKE_ENTRIES ? (size_t)frame[3] << 8 | frame[4] : 0;
     if (frame[1] > limits->time || frame[1] > limits->horizon) return WARM_LATE_HORIZON;
     if (entries > 0 && (limits->known > limits->pages || entries > limits->pages - limits->known))
@@ -718,9 +720,18 @@ static void fake_send_next(fake_visit *its, const fake *in) {
     if (!its->second) its->buckets &= its->buckets - 1;
 }
 
+/* The copy has a block from the first shard on. */
+static void fake_copy(fake_visit *its, const fake *in) {
+    if (its->block == NULL) its->block = malloc(1);
+    its->is_stopped = its->block == NULL;
+    if (its->is_stopped) return;
+    its->at++;
+    its->copied += in->known;
+}
+
 static void fake_work_in(fake_visit *its, fake *in) {
     if (its->work == FAKE_GIVING) in->known += its->each[its->at++];
-    if (its->work == FAKE_COPYING) its->at++, its->copied += in->known;
+    if (its->work == FAKE_COPYING) fake_copy(its, in);
     if (its->work == FAKE_SENDING)
         fake_send_next(its, in);
     else if (its->work == FAKE_OFFERING)
@@ -773,9 +784,13 @@ int visit_message(visit *of, uint8_t *frame, size_t room, size_t *length) {
 }
 
 int visit_list(visit *of, node_page *pages, size_t room, size_t *count) {
-    return fake_list(fake_visit_of(of)->copied, pages, room, count);
+    const fake_visit *its = fake_visit_of(of);
+    return its->work == FAKE_COPYING ? fake_list(its->copied, pages, room, count) : WARM_CLOSED;
 }
 
-int visit_save(visit *of, int number) { return fake_save(fake_visit_of(of)->copied, number); }
+int visit_save(visit *of, int number) {
+    const fake_visit *its = fake_visit_of(of);
+    return its->work == FAKE_COPYING ? fake_save(its->copied, number) : WARM_CLOSED;
+}
 
 #endif

@@ -246,7 +246,7 @@ static void test_memory(void) {
     nothing_left();
 }
 
-/* Each shard has this horizon, and they know so many pages together. */
+/* Each shard has this horizon, and they know this many pages together. */
 static bool have(warm *handle, uint64_t horizon, size_t pages) {
     for (size_t number = 0; number < ((opened *)handle->at)->count; number++)
         if (node_of(handle, number)->horizon != horizon) return false;
@@ -411,6 +411,75 @@ static void test_answers(void) {
          warm_receive(&handle, frame, 9) == WARM_TRUNCATED);
     OK(warm_abandon(&handle));
     nothing_left();
+}
+
+/* A call that is refused if one allocation is granted, and then the same call. */
+#define BOTH(call)                   \
+    do {                             \
+        granted = 1;                 \
+        MUST((call) == WARM_MEMORY); \
+        granted = SIZE_MAX;          \
+        OK(call);                    \
+    } while (0)
+
+static void call_all_others(warm *handle) {
+    const warm_reference seen[] = {{.no = 0, .replica = 1}, {.no = 1, .replica = 1}};
+    uint8_t frame[66];
+    uint64_t horizon;
+    size_t number;
+    warm_page page;
+    warm_sending sending = {.bucket = 1};
+    BOTH(warm_absorb(handle, seen, 2));
+    OK(warm_absorb(handle, seen, 1));
+    OK(warm_raise(handle, 1, &horizon));
+    BOTH(warm_offer(handle, frame, sizeof frame, &number));
+    OK(warm_send(handle, &sending, frame, sizeof frame, &number));
+    BOTH(warm_list(handle, &page, 1, &number));
+    BOTH(warm_save(handle, 1));
+    BOTH(warm_load(handle, 1, 2));
+    OK(warm_history_length(handle, &number));
+}
+
+/* Answers wait while the handle makes its other calls. */
+static void test_calls_while_answers_wait(void) {
+    const uint8_t request[10] = {FAKE_REQUEST, 3, 1, 1};
+    uint8_t frame[66];
+    warm handle = {0};
+    size_t length;
+    open_shards(&handle, 2);
+    call_all_others(&handle);
+    OK(warm_receive(&handle, request, sizeof request));
+    for (int part = 0; part < 4; part++) {
+        call_all_others(&handle);
+        OK(warm_next_answer(&handle, frame, sizeof frame, &length));
+        MUST(length == FAKE_FULL && frame[0] == FAKE_ENTRIES && frame[2] == part / 2);
+    }
+    call_all_others(&handle);
+    OK(warm_next_answer(&handle, frame, sizeof frame, &length));
+    MUST(length == 0);
+    OK(warm_abandon(&handle));
+    nothing_left();
+}
+
+/* A visit knows who sends what it makes, and how many shards there are. */
+static void are_visits_of(const warm *handle, uint16_t replica, size_t count) {
+    const opened *its = handle->at;
+    const fake_visit *calls = its->calls.at, *answers = its->answers.at;
+    MUST(calls->replica == replica && calls->shards == count);
+    MUST(answers->replica == replica && answers->shards == count);
+}
+
+static void test_visits_of_replicas(void) {
+    for (uint16_t replica = 7; replica <= 64; replica += 57) {
+        warm handle = {0}, other = {0};
+        OK(open_with(&handle, replica, 4, 8, devices, FAKE_DEVICES));
+        OK(warm_attach(&handle, &other));
+        are_visits_of(&handle, replica, 4);
+        are_visits_of(&other, replica, 4);
+        OK(warm_close(&other));
+        OK(warm_close(&handle));
+        nothing_left();
+    }
 }
 
 /* Of a message, also of one that nothing answers, a handle keeps something until it is said that no
@@ -630,6 +699,8 @@ int main(void) {
     test_receives_in_parts();
     test_steps_in_one_shard();
     test_answers();
+    test_calls_while_answers_wait();
+    test_visits_of_replicas();
     test_what_is_kept();
     test_refused_answers();
     test_no_lock_during_save_and_load_of_one_shard();
