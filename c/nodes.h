@@ -137,9 +137,9 @@ int node_may_replace(node *handle, uint16_t dev, const node_device *device);
  *
  * A handle has one visit after the other. Between two of them it is idle.
  *
- * Some calls are none. warm_history_length adds up what the nodes say. warm_send is of one bucket,
- * and warm_absorb may be of one reference. If there is one shard, warm_absorb and warm_list are
- * calls of its node, and so are warm_save and warm_load by the only handle.
+ * Some calls are no visits. warm_history_length adds up what the nodes say. warm_send is of one
+ * bucket, and warm_absorb may be of one reference. If there is one shard, warm_absorb and warm_list
+ * are calls of its node, and so are warm_save and warm_load by the only handle.
  */
 
 /* A handle of visits. All zeros is a closed one. It does not move while it is open, but may be used
@@ -149,8 +149,8 @@ typedef struct visit {
     void *at;
 } visit;
 
-/* Opens a closed handle of visits of this replica, in so many shards. Only this call and those that
- * say so may be refused with WARM_MEMORY.
+/* Opens a closed handle of visits of this replica, in this many shards. Only this call and those
+ * that say so may be refused with WARM_MEMORY.
  * Refused: WARM_ALREADY_OPEN; WARM_BAD_REPLICA; WARM_BAD_SHARDS; WARM_MEMORY. */
 int visit_open(visit *handle, uint16_t replica, size_t shards);
 void visit_close(visit *handle);
@@ -165,7 +165,7 @@ int visit_offer(visit *handle);
 int visit_copy(visit *handle);
 
 /* What a message is refused by: times later than time, a horizon later than horizon, and entries
- * with which a history that knows so many pages could know more than pages. */
+ * with which a history that knows this many pages (known) could know more than pages. */
 typedef struct node_limits {
     uint64_t time, horizon;
     size_t pages, known;

@@ -1,9 +1,9 @@
 /*
  * whole_calls.c: the calls of include/warm.h on a whole replica: its history, its messages, its
  * devices and what it has counted. A call of the whole history is a visit, but for those that
- * nodes.h names: a visit, which is proved, decides what is done in which shard, and is let into one
- * shard after the other here. If one shard is enough, it is a call of its node. What is counted is
- * added up here. Nothing here is proved; c/check tests it.
+ * nodes.h names, which are calls of nodes. A visit, which is proved, decides what is done in which
+ * shard: here it is let into one shard after the other. What is counted is added up here. Nothing
+ * here is proved; c/check tests it.
  */
 #define _POSIX_C_SOURCE 200809L /* pthread_mutex_t */
 #include "shards.h"

@@ -27,8 +27,8 @@
    that could leave for its page are being written, a pin waits for one of these writes or an unpin.
    See warm_limit_waits.
    The calls on a shard have one order. A call on the whole replica is not one step, also with one
-   shard: other calls may come between. warm_receive and warm_load first raise the horizon of each
-   shard, and then add to each its part.
+   shard: other calls may come in between. warm_receive and warm_load first raise the horizon of
+   each shard, and then add to each its part.
 
    You may pass any slot, page, number, length, message or descriptor: the call is refused, or does
    what its description says. The library starts no thread.
