@@ -105,8 +105,11 @@ typedef struct opened {
     bool has_failed;
     node_failure failure; /* of a device, in a call of the handle, the last one; if has_failed */
     uint64_t failed;      /* how many were in that call, or were skipped */
-    visit calls;   /* of the whole, one after the other; idle between two */
-    visit answers; /* to the message that was received last, as far as they wait */
+    visit calls; /* of the whole, one after the other; idle between two */
+    /* What waits of the answers to the message that was received last: which buckets are to be
+     * sent, and the next answer. Nothing answers entries, but their copies are here, too. All is
+     * kept until warm_next_answer finds no answer, another message is received, or the close. */
+    visit answers;
     void *block;
     /* bit i: a portion has passed the page in frame i of its shard, which another call was writing;
      * 0 between portions. It is behind the devices' bits */
