@@ -1,8 +1,10 @@
 -- What each call of a visit does to what its open handle holds, and what it writes.
 use Rattle.std.specs.Prelude.{◌≡◌, ℕ, List, map, length, Option, IfSome, Some, None, Result, Ok}
-use Rattle.std.specs.Prelude.{Err}
+use Rattle.std.specs.Prelude.{Err, IsPermutation}
 use Rattle.warm_stamps.specs.declared.PageId.{PageId}
-use Rattle.warm_history.specs.Histories.{HistoryView, IsHistory}
+use Rattle.warm_history.specs.Entry.{Entry}
+use Rattle.warm_history.specs.Histories.{HistoryView, IsHistory, entries_of, history_of_entries_at}
+use Rattle.warm_history.specs.Histories.{references_of}
 use Rattle.warm_rank.specs.WarmUp.{IsWarmUp}
 use Rattle.warm_dump.specs.Reading.{IsDump, IsDumpRefused}
 use Rattle.warm_frames.specs.declared.message.Message.{Message}
@@ -11,7 +13,7 @@ use Rattle.warm_frames.specs.Reading.{GivesReading, read_frame, reserved_by}
 use Rattle.warm_gossip.specs.declared.fault.NodeFault.{NodeFault}
 use Rattle.warm_gossip.specs.declared.fault.NodeFault.TheVariants.{Memory}
 use Rattle.warm_visits.specs.VisitMessages.{final_message, first_message, resumed, without_message}
-use Rattle.warm_visits.specs.Visits.{HasEntered, VisitState, absorb_visit, copy_of, join_visit}
+use Rattle.warm_visits.specs.Visits.{HasEntered, VisitState, absorb_visit, copy_of, give_visit}
 use Rattle.warm_visits.specs.Visits.{kept_of, next_shard, offer_visit, receive_visit, result_of}
 use Rattle.warm_c_base.specs.declared.status.Refusal.TheVariants.{Closed, Dump, Frame, Node}
 use Rattle.warm_c_base.specs.declared.values.WarmPage.{WarmPage}
@@ -52,11 +54,14 @@ BeginsReceive limits bytes old (Err (Node Memory)) new = new ≡ old
 BeginsReceive limits bytes old (Err why) new = (message : Message) × Encodes bytes message
     × ExceedsLimits limits message why × (new ≡ old)
 
--- A history is joined, of which the bytes are a dump, if they are known. Or they show why they
--- are none, or were not read; or memory failed; the visit before is then kept.
+-- The entries of a history are taken in, in some order, at its horizon. The bytes are a dump of it,
+-- if they are known. Or they show why they are none, or were not read; or memory failed; the visit
+-- before is then kept.
 abbrev pub BeginsLoad : Option (List ℕ) → OpenVisit → Ending → OpenVisit → Type 0
 BeginsLoad bytes old (Ok given) new = (h : HistoryView) × IsHistory h
-    × IfSome bytes (λ text. IsDump text h) × BeginsVisit (λ id n. join_visit id n h) old new
+    × IfSome bytes (λ text. IsDump text h) × (es : List Entry) × IsPermutation (entries_of h) es
+    × BeginsVisit
+    (λ id n. give_visit id n (references_of (history_of_entries_at h.horizon es))) old new
 BeginsLoad bytes old (Err (Node Memory)) new = new ≡ old
 BeginsLoad bytes old (Err (Dump why)) new =
     ((at : ℕ) × IfSome bytes (λ text. IsDumpRefused text at why)) × (new ≡ old)

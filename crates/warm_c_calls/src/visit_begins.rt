@@ -13,6 +13,7 @@ use std::io::Read;
 use warm_c_base::{Descriptor, FileReader, Refusal, WarmReference};
 use warm_dump::read_dump;
 use warm_frames::decode;
+use warm_history::Entry;
 use warm_history::laws::prove_is_history;
 use warm_visits::Visit;
 
@@ -77,7 +78,7 @@ impl OpenVisit {
         Ok(())
     }
 
-    // Reads a dump from any reader to its end, and begins to join its history.
+    // Reads a dump from any reader to its end, and begins to give the entries of its history.
     fn read_from<R: Read>(&mut self, alloc: Global, reader: &mut R) -> Result<(), Refusal>
         ensures { BeginsLoad (R.remaining reader.old) self.old result self.new }
     {
@@ -86,12 +87,17 @@ impl OpenVisit {
             Err(error) => return Err(Refusal::Dump(error.fault)),
         };
         prove_is_history(&history);
-        self.visit = Visit::join(alloc, self.visit.id(), self.visit.count(), &history)?;
+        let horizon = history.horizon();
+        // In the order of the buckets: to merge these into one would take much of a thread's stack.
+        let entries: Vec<Entry> = history.unordered().collect(alloc)?;
+        drop(history);
+        let (id, count) = (self.visit.id(), self.visit.count());
+        self.visit = Visit::entries(alloc, id, count, horizon, &entries)?;
         Ok(())
     }
 
-    /// Reads the dump that the first bytes of a file are, and begins [`Visit::join`] of its
-    /// history.
+    /// Reads the dump that the first bytes of a file are, and begins [`Visit::entries`] of its
+    /// history, at its horizon.
     ///
     /// # Errors
     /// In this order; nothing has changed.
