@@ -1,4 +1,4 @@
-//! What all shards together answer to digests and to a request.
+//! What all shards together offer, and what they answer to digests and to a request.
 ghost use Rattle.std.specs.Prelude.{◌≡◌, ◌↔◌, ◌<◌, length, IfErr, IfOk, IsTrue};
 ghost use Rattle.warm_frames.specs.declared.message.Message.{Message};
 ghost use Rattle.warm_peer.specs.Answers.{IsAnswer};
@@ -16,7 +16,8 @@ use warm_gossip::{Node, NodeFault};
 use warm_peer::Peer;
 use warm_visits::Visit;
 
-/// Lets a visit into the nodes by which they receive digests or a request, and returns their answer.
+/// Lets a visit into the nodes by which they receive digests or a request, and returns their
+/// answer.
 ///
 /// `Memory` occurs only if an allocation fails.
 pub(crate) fn visited<D: PageDevice>(

@@ -45,7 +45,7 @@ resumed v = record v { stopped = false }
 
 -- Taken out one after the other
 
--- what is made, with these messages before it
+-- what is made, with these messages before its own
 abbrev pub put_before : List Message → Made → Made
 put_before taken (answered messages) = answered (taken ++ messages)
 put_before taken made = made

@@ -1,5 +1,6 @@
 -- A call of the whole as a visit: the errands that it still has, each at one shard, and what those
--- before have made. Whoever has the shards lets it into that of its next errand, until none is left.
+-- before have made. Whoever has the shards lets it into that of its next errand, until none is
+-- left.
 use Rattle.std.specs.Prelude.{◌≡◌, ◌≢◌, ◌↔◌, ℕ, ◌+◌, ◌*◌, ◌-◌, ◌%◌, ◌^◌, ◌<◌, ◌==◌, if◌then◌else◌}
 use Rattle.std.specs.Prelude.{max, min, Bool, true, false, IsTrue, List, [], ◌∷◌, ◌++◌, map}
 use Rattle.std.specs.Prelude.{replicate, Option, Some, None, Result, Ok, Err}
@@ -111,30 +112,30 @@ NodeSays old copying (copied h) new = (h ≡ old.history) × IsSame old new
 NodeSays old copying refused new = IsSame old new
 NodeSays old copying said new = ⊥
 
--- the horizon of one more shard
+-- the earliest horizon, with that of one more shard
 abbrev pub keeps : Made → ℕ → Made
 keeps (raised None) horizon = raised (Some horizon)
 keeps (raised (Some earliest)) horizon = raised (Some (min earliest horizon))
 keeps made horizon = made
 
--- the offer of one more shard
+-- the offer of one more shard is gathered: the later horizon, and the digests of its buckets
 abbrev pub GathersOffer : ℕ → ℕ → ℕ → List (List ℕ) → Made → Made → Type 0
 GathersOffer count i horizon table (gathered latest digests) (gathered later filled) =
     (later ≡ max latest horizon) × FillsShard count i digests table filled
 GathersOffer count i horizon table before after = ⊥
 
--- one more message; one without entries is none
+-- the messages with one more; one without entries is none
 abbrev pub with_message : Made → Message → Made
 with_message (answered messages) (Entries sender horizon []) = answered messages
 with_message (answered messages) message = answered (messages ++ message ∷ [])
 with_message made message = made
 
--- if more entries of a bucket follow than a message holds: those after its last page
+-- the errand for the entries after a message's last page, if more of the bucket follow
 abbrev pub goes_on : ℕ → ℕ → Message → Bool → List Errand
 goes_on i bucket message true = at_shard i (sending bucket (last_page (entries_in message))) ∷ []
 goes_on i bucket message false = []
 
--- the history of one more shard
+-- the join of histories, with that of one more shard
 abbrev pub with_history : Made → HistoryView → Made
 with_history (joined h) g = joined (join h g)
 with_history made g = made
@@ -144,11 +145,11 @@ abbrev pub send_plan : ℕ → ℕ → List Errand
 send_plan count request =
     map (λ b. at_shard (b % count) (sending b None)) (requested_buckets request)
 
--- If all have offered that are to be compared: the entries of the buckets that differ, and then a
--- request for these; nothing if none differs.
+-- What follows an offer. If digests wait and it was the last one: the entries of the buckets that
+-- differ, and then a request for these; nothing if none differs. Else the visit goes on as it is.
 abbrev pub ComparesOffers : List Errand → After → Made → VisitState → VisitState → Type 0
-ComparesOffers [] (compares digests) (gathered horizon table) v w = (request : ℕ) × (request < 2 ^ 64)
-    × MarksDiffering request digests table
+ComparesOffers [] (compares digests) (gathered horizon table) v w = (request : ℕ)
+    × (request < 2 ^ 64) × MarksDiffering request digests table
     × (w ≡ begun v.id v.count (send_plan v.count request) (answered [])
     (if request == 0 then ends else requests (Want v.id horizon request)))
 ComparesOffers rest after made v w = w ≡ v
@@ -257,7 +258,7 @@ give_part i S = part_errand i S S.given
 abbrev pub give_plan : ℕ → ReferenceSet → List Errand
 give_plan count S = flat_map (λ i. give_part i (of_shard count i S)) (each_shard count)
 
--- each shard is raised, and then those are given references that have pages of them
+-- each shard is raised
 abbrev pub raise_plan : ℕ → ℕ → List Errand
 raise_plan count time = at_each count (giving (at_horizon time))
 
@@ -269,7 +270,7 @@ raise_and_give count S = raise_plan count S.horizon ++ give_plan count S
 abbrev pub absorb_visit : ℕ → ℕ → List Reference → VisitState
 absorb_visit id count batch = begun id count (give_plan count (set_of_list batch)) nothing ends
 
--- a horizon
+-- a horizon: each shard is raised to it
 abbrev pub raise_visit : ℕ → ℕ → ℕ → VisitState
 raise_visit id count time = begun id count (raise_plan count time) (raised None) ends
 
@@ -277,7 +278,7 @@ raise_visit id count time = begun id count (raise_plan count time) (raised None)
 abbrev pub give_visit : ℕ → ℕ → ReferenceSet → VisitState
 give_visit id count S = begun id count (raise_and_give count S) nothing ends
 
--- all that another history stands for
+-- another history: all that it stands for
 abbrev pub join_visit : ℕ → ℕ → HistoryView → VisitState
 join_visit id count h = give_visit id count (references_of h)
 
@@ -297,7 +298,8 @@ receive_visit id count (Entries sender horizon entries) =
 receive_visit id count (Want sender horizon request) =
     begun id count (raise_plan count horizon ++ send_plan count request) (answered []) ends
 receive_visit id count (Digest sender horizon digests) =
-    begun id count (raise_plan count horizon ++ at_each count offering) nothing_offered (compares digests)
+    begun id count (raise_plan count horizon ++ at_each count offering) nothing_offered
+    (compares digests)
 
 -- the message is one of entries
 abbrev pub HasEntries : Message → Type 0
@@ -308,13 +310,15 @@ HasEntries message = ⊥
 abbrev pub copy_visit : ℕ → ℕ → VisitState
 copy_visit id count = begun id count (at_each count copying) (joined (history_of_entries [])) ends
 
+-- What was made
+
 -- the messages of the answer of a visit that has no errand left
 abbrev pub answers_of : Made → After → List Message
 answers_of (answered messages) (requests message) = messages ++ message ∷ []
 answers_of (answered messages) after = messages
 answers_of made after = []
 
--- what it offers
+-- what all shards offer
 abbrev pub offer_in : ℕ → Made → Option Message
 offer_in id (gathered horizon table) = Some (Digest id horizon table)
 offer_in id made = None
@@ -324,7 +328,7 @@ abbrev pub copy_of : Made → Option HistoryView
 copy_of (joined h) = Some h
 copy_of made = None
 
--- the earliest horizon
+-- the earliest horizon of a shard that was raised
 abbrev pub kept_of : Made → Option ℕ
 kept_of (raised horizon) = horizon
 kept_of made = None
