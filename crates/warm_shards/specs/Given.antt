@@ -44,7 +44,7 @@ pub record ReceivesAll (message : Message) (old : List NodeState)
 
 -- What a call leaves by which shards offer their digests. They have offered what one node does, or
 -- memory was refused; nothing has changed that a caller sees.
-pub record OffersAll (old : List NodeState) (result : Result Message NodeFault)
+pub record OffersTogether (old : List NodeState) (result : Result Message NodeFault)
     (new : List NodeState) : Type 0 where
   pub shards : AreShards new
   pub step : TogetherAnswered old Offer Sent result new

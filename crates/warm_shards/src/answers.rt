@@ -4,7 +4,7 @@ ghost use Rattle.warm_frames.specs.declared.message.Message.{Message};
 ghost use Rattle.warm_peer.specs.Answers.{IsAnswer};
 ghost use Rattle.warm_gossip.specs.declared.fault.NodeFault.TheVariants.{Memory};
 ghost use Rattle.warm_shards.specs.Clauses.{SameShards};
-ghost use Rattle.warm_shards.specs.Given.{OffersAll, ReceivesAll};
+ghost use Rattle.warm_shards.specs.Given.{OffersTogether, ReceivesAll};
 ghost use Rattle.warm_shards.specs.Shards.{AreShards, shard_at, whole};
 ghost use Rattle.warm_visits.specs.Visits.{HasEntries, receive_visit};
 
@@ -45,7 +45,7 @@ pub(crate) fn offer_of_all<D: PageDevice>(
     nodes: &mut Vec<Node<D>>,
 ) -> Result<Message, NodeFault>
     requires { AreShards nodes.old.items }
-    ensures { OffersAll nodes.old.items result nodes.new.items }
+    ensures { OffersTogether nodes.old.items result nodes.new.items }
 {
     let mut visit = Visit::offer(alloc, nodes[0].id(), nodes.len())?;
     go_through(nodes, &mut visit)?;
