@@ -2,8 +2,8 @@
 //!
 //! A visit names the shard that it wants next, enters the node of that shard with one step, and
 //! ends with what was made: answers, an offer, a copy. Whoever has the nodes drives it: a loop over
-//! nodes that nobody else has (`warm_shards`), threads by turns, or C by its locks. It decides what
-//! is asked of each shard; the driver decides nothing.
+//! nodes that nobody else has (`warm_shards`), or C by its locks. It decides what is asked of each
+//! shard; the driver decides nothing.
 //!
 //! Contracts see a visit as the errands that it still has, each at one shard, and what those before
 //! have made: `specs/Visits.antt`. Whatever others do between two entries, the errands together

@@ -1,7 +1,7 @@
 //! A call of the whole as a value, which goes from shard to shard: it names the shard of its next
 //! errand, and enters that with one step.
 //!
-//! Whoever has the shards drives it: a loop over nodes, threads by turns, or C by its locks.
+//! Whoever has the shards drives it: a loop over nodes, or C by its locks.
 ghost use Rattle.std.specs.Prelude.{◌≡◌, ◌≢◌, ◌<◌, ◌≤◌, false, IfOk, IfSome, None};
 ghost use Rattle.warm_history.specs.Histories.{entries_of, history_of_entries_at, references_of};
 ghost use Rattle.warm_visits.specs.ShardNumbers.{IsShardCount};
