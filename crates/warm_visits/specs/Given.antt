@@ -8,7 +8,7 @@ use Rattle.warm_gossip.specs.declared.fault.NodeFault.TheVariants.{Memory}
 use Rattle.warm_gossip.specs.Clauses.{SameView}
 use Rattle.warm_gossip.specs.State.{NodeState, node_view}
 
--- no reference, at this horizon
+-- the set without a reference, at this horizon
 abbrev pub at_horizon : ℕ → ReferenceSet
 at_horizon time = record { horizon = time; given = [] }
 

@@ -124,7 +124,7 @@ GathersOffer count i horizon table (gathered latest digests) (gathered later fil
     (later ≡ max latest horizon) × FillsShard count i digests table filled
 GathersOffer count i horizon table before after = ⊥
 
--- the messages with one more; one without entries is none
+-- what is made, with one more message; one without entries is none
 abbrev pub with_message : Made → Message → Made
 with_message (answered messages) (Entries sender horizon []) = answered messages
 with_message (answered messages) message = answered (messages ++ message ∷ [])
@@ -206,7 +206,7 @@ result_of true = Err Memory
 
 -- How far it is to the end
 
--- More than the number of pages after this one.
+-- a number larger than that of the pages after this one
 abbrev pub pages_after : Option PageId → ℕ
 pages_after None = 2 ^ 80 + 1
 pages_after (Some p) = 2 ^ 80 - (p.dev * 2 ^ 64 + p.no)
@@ -221,23 +221,23 @@ abbrev pub entries_for_all : List Errand → ℕ
 entries_for_all [] = 0
 entries_for_all (e ∷ es) = entries_for e.ask + entries_for_all es
 
--- those that follow a comparison: at most one errand for each bucket
+-- how many entries what follows takes at most: after a comparison, one errand for each bucket
 abbrev pub entries_after : After → ℕ
 entries_after (compares digests) = BUCKETS * entries_for (sending 0 None)
 entries_after after = 0
 
--- how many are left; none if an errand was refused
+-- how many entries are left at most; none if an errand was refused
 abbrev pub entries_unless : Bool → List Errand → After → ℕ
 entries_unless true plan after = 0
 entries_unless false plan after = entries_for_all plan + entries_after after
 
--- no more entries than this are left, however much the shards send
+-- how many entries of a visit are left at most, however much the shards send
 abbrev pub entries_left : VisitState → ℕ
 entries_left v = entries_unless v.stopped v.plan v.after
 
 -- The calls of the whole
 
--- the shards, in their order
+-- the numbers of the shards, in their order
 abbrev pub each_shard : ℕ → List ℕ
 each_shard count = range_with_len 0 count
 
@@ -254,31 +254,31 @@ part_errand i S (r ∷ rs) = at_shard i (giving S) ∷ []
 abbrev pub give_part : ℕ → ReferenceSet → List Errand
 give_part i S = part_errand i S S.given
 
--- those are given references that have pages of them
+-- the errands that give references: to each shard those to its pages, if there are any
 abbrev pub give_plan : ℕ → ReferenceSet → List Errand
 give_plan count S = flat_map (λ i. give_part i (of_shard count i S)) (each_shard count)
 
--- each shard is raised
+-- the errands that raise each shard
 abbrev pub raise_plan : ℕ → ℕ → List Errand
 raise_plan count time = at_each count (giving (at_horizon time))
 
--- each shard is raised, and then those are given references that have pages of them
+-- the errands that raise each shard, and then give references
 abbrev pub raise_and_give : ℕ → ReferenceSet → List Errand
 raise_and_give count S = raise_plan count S.horizon ++ give_plan count S
 
--- a batch: each shard is given the references to its pages
+-- the visit of a batch: each shard is given the references to its pages
 abbrev pub absorb_visit : ℕ → ℕ → List Reference → VisitState
 absorb_visit id count batch = begun id count (give_plan count (set_of_list batch)) nothing ends
 
--- a horizon: each shard is raised to it
+-- the visit of a horizon: each shard is raised to it
 abbrev pub raise_visit : ℕ → ℕ → ℕ → VisitState
 raise_visit id count time = begun id count (raise_plan count time) (raised None) ends
 
--- references at their horizon
+-- the visit of references at their horizon
 abbrev pub give_visit : ℕ → ℕ → ReferenceSet → VisitState
 give_visit id count S = begun id count (raise_and_give count S) nothing ends
 
--- another history: all that it stands for
+-- the visit of another history: all that it stands for is given
 abbrev pub join_visit : ℕ → ℕ → HistoryView → VisitState
 join_visit id count h = give_visit id count (references_of h)
 
@@ -286,12 +286,13 @@ join_visit id count h = give_visit id count (references_of h)
 abbrev pub nothing_offered : Made
 nothing_offered = gathered 0 (replicate BUCKETS (replicate DIGEST_SIZE 0))
 
--- each shard offers its digests
+-- the visit in which each shard offers its digests
 abbrev pub offer_visit : ℕ → ℕ → VisitState
 offer_visit id count = begun id count (at_each count offering) nothing_offered ends
 
--- Each shard is raised to the horizon of a message. Then those are given its entries that have
--- pages of them; or those send that have requested buckets; or all offer, and this is compared.
+-- The visit of a message. Each shard is raised to its horizon. Then those are given its entries
+-- that have pages of them; or those send that have requested buckets; or all offer, and what they
+-- offer is compared.
 abbrev pub receive_visit : ℕ → ℕ → Message → VisitState
 receive_visit id count (Entries sender horizon entries) =
     give_visit id count (refs_in (Entries sender horizon entries))
@@ -306,7 +307,7 @@ abbrev pub HasEntries : Message → Type 0
 HasEntries (Entries sender horizon entries) = Unit {0}
 HasEntries message = ⊥
 
--- the history of each shard is copied
+-- the visit that copies the history of each shard
 abbrev pub copy_visit : ℕ → ℕ → VisitState
 copy_visit id count = begun id count (at_each count copying) (joined (history_of_entries [])) ends
 
@@ -323,7 +324,7 @@ abbrev pub offer_in : ℕ → Made → Option Message
 offer_in id (gathered horizon table) = Some (Digest id horizon table)
 offer_in id made = None
 
--- the history that it copied
+-- the history that a visit copied
 abbrev pub copy_of : Made → Option HistoryView
 copy_of (joined h) = Some h
 copy_of made = None
