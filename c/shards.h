@@ -135,7 +135,7 @@ static inline size_t bytes_of_devices(const replica *of) { return (of->device_co
 /* Of a shard. */
 static inline size_t bytes_of_frames(const replica *of) { return (of->frames / of->count + 7) / 8; }
 
-/* As shard_of of crates/warm_shards has it: the page's bucket, (dev + no) modulo 64, modulo the
+/* As shard_of of crates/warm_visits has it: the page's bucket, (dev + no) modulo 64, modulo the
  * number of shards, which is a power of two up to 64. The proved part is not asked, so that a hit
  * makes no call. */
 static inline size_t number_of(const opened *its, node_page page) {

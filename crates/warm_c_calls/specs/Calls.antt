@@ -12,8 +12,8 @@ use Rattle.warm_frames.specs.Encoding.{encoding}
 use Rattle.warm_pool.specs.Unchanged.{KeepsBytes}
 use Rattle.warm_pool.specs.View.{view_of, IsResident}
 use Rattle.warm_gossip.specs.declared.call.Call.{Call}
-use Rattle.warm_gossip.specs.declared.call.Call.TheVariants.{Absorb, Pin, Unpin}
-use Rattle.warm_gossip.specs.declared.call.Call.TheVariants.{Read, Write, Victim, WarmList, WarmStep}
+use Rattle.warm_gossip.specs.declared.call.Call.TheVariants.{Absorb, Pin, Unpin, Write}
+use Rattle.warm_gossip.specs.declared.call.Call.TheVariants.{Read, Victim, WarmList, WarmStep}
 use Rattle.warm_gossip.specs.declared.call.Reply.{Reply}
 use Rattle.warm_gossip.specs.declared.call.Reply.TheVariants.{Done, Pinned, Bytes}
 use Rattle.warm_gossip.specs.declared.call.Reply.TheVariants.{Page, Pages, Loaded, Refused}

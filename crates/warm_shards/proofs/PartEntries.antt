@@ -1,4 +1,4 @@
--- The references that a part of a batch or of entries holds.
+-- The part of a shard of the entries of a message: it fits into one, and its pages are of the shard.
 use Rattle.std.proofs.Common.{◌≡◌, ℕ, Bool, List, arith, nat_eq, not, refl}
 use Rattle.std.specs.Ordering.{on}
 use Rattle.std.specs.List.{All}

@@ -17,7 +17,7 @@ use Rattle.warm_gossip.specs.declared.call.Reply.TheVariants.{Answers, Refused, 
 use Rattle.warm_gossip.specs.State.{NodeState, NodeView, empty_node, node_view}
 use Rattle.warm_peer.specs.Answers.{IsAnswer, refs_in}
 use Rattle.warm_shards.specs.Clauses.{KeepPools, SameShards, TakesInFirst, Together}
-use Rattle.warm_shards.specs.Given.{AreGiven, Gives, OffersAll, ReceivesAll}
+use Rattle.warm_shards.specs.Given.{AreGiven, Gives, OffersTogether, ReceivesAll}
 use Rattle.warm_visits.specs.Given.{at_horizon}
 use Rattle.warm_shards.specs.Shards.{AreShards, held, shard_at, whole}
 use Rattle.warm_visits.specs.ShardNumbers.{of_first_shards, of_shard}
@@ -224,7 +224,7 @@ offers_so old new v w are is gone over =
 
 -- what a visit with no errand left has offered
 pub offers_all : (old new : List NodeState) (w : VisitState) (offer : Message) → Offers old w new
-    → w.stopped ≡ false → Some offer ≡ offer_in w.id w.made → OffersAll old (Ok offer) new
+    → w.stopped ≡ false → Some offer ≡ offer_in w.id w.made → OffersTogether old (Ok offer) new
 offers_all old new w offer ends well is =
     let done = ends.done well in
     let both : Some offer ≡ Some done.0 = is ∙ done.1 in
@@ -244,7 +244,7 @@ offers_some old new w ends well is =
 
 -- a shard had no memory
 pub offers_refused : (old new : List NodeState) (w : VisitState) (why : NodeFault) → Offers old w new
-    → w.stopped ≡ true → why ≡ Memory → OffersAll old (Err why) new
+    → w.stopped ≡ true → why ≡ Memory → OffersTogether old (Err why) new
 offers_refused old new w why ends stopped memory =
     let first = ends.stopped stopped in
     let known : whole new ≡ whole old = first.3 ∙ raised_to_no_later (whole old) 0 (IsHistory-history (held old)) (omega arith) in
@@ -256,7 +256,7 @@ offers_refused old new w why ends stopped memory =
 
 -- there was no memory for the visit, and nothing has changed
 pub offers_none : (ns : List NodeState) (why : NodeFault) → AreShards ns → why ≡ Memory
-    → OffersAll ns (Err why) ns
+    → OffersTogether ns (Err why) ns
 offers_none ns why are memory = record {
   shards = are;
   step = subst (λ (f : NodeFault). Together ns Offer (Refused f) ns) (sym memory) (λ pool. refl);

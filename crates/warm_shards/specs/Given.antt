@@ -1,4 +1,5 @@
--- References that are given to shards: each takes in those to its pages.
+-- What calls of the whole leave: references that are given to shards, of which each takes in those
+-- to its pages; a message that they receive; an offer.
 use Rattle.std.specs.Prelude.{◌≡◌, List, IfErr, IfOk, OnOk, Result}
 use Rattle.warm_history.specs.ReferenceSets.{ReferenceSet}
 use Rattle.warm_frames.specs.declared.message.Message.{Message}
@@ -33,8 +34,8 @@ pub record Gives (S : ReferenceSet) (old : List NodeState) (result : Result Unit
 -- What a call leaves by which shards receive a message. They have received it as one node does, or,
 -- if memory was refused, have its horizon and what it has for the first shards. They are still the
 -- shards of the replica, and their pools are as they were.
-pub record ReceivesAll (message : Message) (old : List NodeState) (result : Result (List Message) NodeFault)
-    (new : List NodeState) : Type 0 where
+pub record ReceivesAll (message : Message) (old : List NodeState)
+    (result : Result (List Message) NodeFault) (new : List NodeState) : Type 0 where
   pub shards : AreShards new
   pub id : (shard_at new 0).id ≡ (shard_at old 0).id
   pub received : IfOk result (λ answers. Together old (Receive message) (Answers answers) new)
@@ -43,7 +44,7 @@ pub record ReceivesAll (message : Message) (old : List NodeState) (result : Resu
 
 -- What a call leaves by which shards offer their digests. They have offered what one node does, or
 -- memory was refused; nothing has changed that a caller sees.
-pub record OffersAll (old : List NodeState) (result : Result Message NodeFault)
+pub record OffersTogether (old : List NodeState) (result : Result Message NodeFault)
     (new : List NodeState) : Type 0 where
   pub shards : AreShards new
   pub step : TogetherAnswered old Offer Sent result new

@@ -1,4 +1,4 @@
--- A batch, a message or a history, by the shards of its pages.
+-- What a message and a history say of the pages of one shard.
 use Rattle.std.specs.Prelude.{ℕ}
 use Rattle.warm_history.specs.Histories.{HistoryView, entries_of, history_of_entries_at}
 use Rattle.warm_frames.specs.declared.message.Message.{Message}

@@ -1,5 +1,5 @@
--- The laws of visits: alone a visit is the call of the one node, and among others either way the
--- whole has had the whole.
+-- Laws of visits that nobody interrupts: such a visit is the call of the one node that has all
+-- references of the shards. For visits among others see the laws of warm_visits.
 use Rattle.std.specs.Prelude.{◌≡◌, ℕ, false, true, List, [], length, slice_set, Some}
 use Rattle.std.specs.Prelude.{None}
 use Rattle.warm_stamps.specs.declared.Reference.{Reference}
@@ -20,8 +20,6 @@ use Rattle.warm_visits.specs.Visits.{Enters, Errand, Said, VisitState, absorb_vi
 use Rattle.warm_visits.specs.Visits.{answers_of, copy_of, copy_visit, join_visit}
 use Rattle.warm_visits.specs.Visits.{kept_of, next_shard, offer_in, offer_visit, raise_visit}
 use Rattle.warm_visits.specs.Visits.{receive_visit}
-
--- Nobody interrupts
 
 -- a visit, and shards that it alone enters
 pub record Alone : Type 0 where

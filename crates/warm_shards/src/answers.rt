@@ -1,10 +1,10 @@
-//! What all shards together answer to digests and to a request.
+//! What all shards together offer, and what they answer to digests and to a request.
 ghost use Rattle.std.specs.Prelude.{◌≡◌, ◌↔◌, ◌<◌, length, IfErr, IfOk, IsTrue};
 ghost use Rattle.warm_frames.specs.declared.message.Message.{Message};
 ghost use Rattle.warm_peer.specs.Answers.{IsAnswer};
 ghost use Rattle.warm_gossip.specs.declared.fault.NodeFault.TheVariants.{Memory};
 ghost use Rattle.warm_shards.specs.Clauses.{SameShards};
-ghost use Rattle.warm_shards.specs.Given.{OffersAll, ReceivesAll};
+ghost use Rattle.warm_shards.specs.Given.{OffersTogether, ReceivesAll};
 ghost use Rattle.warm_shards.specs.Shards.{AreShards, shard_at, whole};
 ghost use Rattle.warm_visits.specs.Visits.{HasEntries, receive_visit};
 
@@ -16,7 +16,8 @@ use warm_gossip::{Node, NodeFault};
 use warm_peer::Peer;
 use warm_visits::Visit;
 
-/// Lets a visit into the nodes by which they receive digests or a request, and returns their answer.
+/// Lets a visit into the nodes by which they receive digests or a request, and returns their
+/// answer.
 ///
 /// `Memory` occurs only if an allocation fails.
 pub(crate) fn visited<D: PageDevice>(
@@ -44,7 +45,7 @@ pub(crate) fn offer_of_all<D: PageDevice>(
     nodes: &mut Vec<Node<D>>,
 ) -> Result<Message, NodeFault>
     requires { AreShards nodes.old.items }
-    ensures { OffersAll nodes.old.items result nodes.new.items }
+    ensures { OffersTogether nodes.old.items result nodes.new.items }
 {
     let mut visit = Visit::offer(alloc, nodes[0].id(), nodes.len())?;
     go_through(nodes, &mut visit)?;

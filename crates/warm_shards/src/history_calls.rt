@@ -8,8 +8,8 @@ ghost use Rattle.warm_gossip.specs.declared.fault.NodeFault.TheVariants.{Memory}
 ghost use Rattle.warm_shards.specs.Clauses.{KeepPools, TakesInFirst, Together};
 ghost use Rattle.warm_shards.specs.Clauses.{TogetherAnswered};
 ghost use Rattle.warm_shards.specs.Given.{AreGiven, Gives};
-ghost use Rattle.warm_visits.specs.Given.{at_horizon};
 ghost use Rattle.warm_shards.specs.Shards.{AreShards, whole};
+ghost use Rattle.warm_visits.specs.Given.{at_horizon};
 ghost use Rattle.warm_visits.specs.ShardNumbers.{shard_of};
 
 use crate::go_through::go_through;

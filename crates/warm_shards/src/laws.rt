@@ -1,5 +1,5 @@
 //! Laws of shards. Each function changes nothing: its contract is a theorem, which
-//! `specs/Laws.antt`, or `specs/PartLaws.antt`, states in full.
+//! `specs/Laws.antt`, `specs/PartLaws.antt`, or `specs/VisitLaws.antt` states in full.
 ghost use Rattle.warm_shards.specs.Laws.{FailuresStayInShard, FirstAreGiven};
 ghost use Rattle.warm_shards.specs.Laws.{ShardVictimsAreFarthest, ShardsStand};
 ghost use Rattle.warm_shards.specs.Laws.{StepsStayInShard, WholeIsOfGiven};

@@ -1,13 +1,11 @@
 //! The shards of a replica.
 ghost use Rattle.std.specs.Prelude.{◌≡◌, ◌↔◌, ◌<◌, ◌*◌, [], length, IfErr, IfOk, IsTrue};
+ghost use Rattle.std.specs.List.{All};
 ghost use Rattle.warm_history.specs.Histories.{history_of_entries};
 ghost use Rattle.warm_gossip.specs.declared.fault.NodeFault.TheVariants.{Memory};
 ghost use Rattle.warm_shards.specs.Dividing.{IsDivisionRefused, IsOpeningRefused};
-ghost use Rattle.warm_shards.specs.Shards.{AreOpened, AreShards, IsOpened};
-ghost use Rattle.warm_visits.specs.ShardNumbers.{IsShardCount};
-ghost use Rattle.warm_shards.specs.Shards.{shard_at, whole};
-ghost use Rattle.warm_visits.specs.ShardNumbers.{shard_of};
-ghost use Rattle.std.specs.List.{All};
+ghost use Rattle.warm_shards.specs.Shards.{AreOpened, AreShards, IsOpened, shard_at, whole};
+ghost use Rattle.warm_visits.specs.ShardNumbers.{IsShardCount, shard_of};
 
 use crate::fault::{ShardsError, ShardsFault};
 use std::alloc::{AllocError, Global};

@@ -3,12 +3,11 @@ ghost use Rattle.std.specs.Prelude.{◌≡◌, ◌↔◌, length, IfErr, IfOk, I
 ghost use Rattle.std.specs.List.{AllByRecursion};
 ghost use Rattle.warm_history.specs.Histories.{entries_of};
 ghost use Rattle.warm_pool.specs.View.{view_of};
+ghost use Rattle.warm_shards.specs.EachShard.{OfEach, Rises};
+ghost use Rattle.warm_shards.specs.Shards.{HasPagesOf, HoldsShard, whole};
 ghost use Rattle.warm_shards.specs.ShardsOfNodes.{AreOwnOf, CanBeShards, IsFormingRefused};
 ghost use Rattle.warm_shards.specs.ShardsOfNodes.{IsOwnIfResident};
-ghost use Rattle.warm_shards.specs.Shards.{HasPagesOf, HoldsShard};
 ghost use Rattle.warm_visits.specs.ShardNumbers.{IsShardCount, shard_of};
-ghost use Rattle.warm_shards.specs.Shards.{whole};
-ghost use Rattle.warm_shards.specs.EachShard.{OfEach, Rises};
 
 use crate::each_shard::raise_first;
 use crate::fault::{ShardsError, ShardsFault};

@@ -1,4 +1,4 @@
--- What a node takes in that references are given to.
+-- A node that absorbs a batch, or joins entries, is given references, or refuses them.
 use Rattle.std.proofs.Common.{◌≡◌, List, refl, ℕ, Result, Ok, Err}
 use Rattle.warm_stamps.specs.declared.Reference.{Reference}
 use Rattle.warm_pool.specs.Unchanged.{KeepsBytes}

@@ -1,4 +1,4 @@
--- Whether a shard has a part.
+-- The errands that give parts are those from the first shard on; a shard has a part or none.
 use Rattle.std.proofs.Common.{◌≡◌, ◌≢◌, ◌⊎◌, inl, inr, ℕ, ◌-◌, List, [], ◌∷◌, refl, ap, arith}
 use Rattle.std.specs.List.{flat_map, range_with_len}
 use Rattle.warm_history.specs.ReferenceSets.{ReferenceSet}
@@ -9,8 +9,6 @@ use Rattle.warm_visits.specs.Visits.{give_part, give_plan}
 pub empty_or_not : {A : Type 0} (xs : List A) → (xs ≡ []) ⊎ (xs ≢ [])
 empty_or_not [] = inl refl
 empty_or_not (x ∷ xs) = inr (λ none. absurd (cc))
-
--- ---- whole visits
 
 pub give_all : (count : ℕ) (S : ReferenceSet)
     → give_plan count S ≡ give_from count (λ i. of_shard count i S) 0

@@ -8,19 +8,19 @@ use Rattle.warm_gossip.specs.declared.fault.NodeFault.TheVariants.{Memory}
 use Rattle.warm_gossip.specs.Clauses.{SameView}
 use Rattle.warm_gossip.specs.State.{NodeState, node_view}
 
--- no reference, at this horizon
+-- the set without a reference, at this horizon
 abbrev pub at_horizon : ℕ → ReferenceSet
 at_horizon time = record { horizon = time; given = [] }
 
--- the node has taken in the references of S, at the later horizon of both; nothing else has changed
--- that a caller sees, nor a device, nor the bytes or the dirty flag of a frame
+-- The node has taken in the references of S, at the later horizon of both. Nothing else has changed
+-- that a caller sees, nor a device, nor the bytes or the dirty flag of a frame.
 abbrev pub IsGiven : ReferenceSet → NodeState → NodeState → Type 0
 IsGiven S old new = (node_view new
     ≡ record (node_view old) { history = history (references_of old.history ∪ S) })
     × KeepsBytes old.pool new.pool
 
--- of the node nothing has changed that a caller sees, nor a device, nor the bytes or the dirty flag of
--- a frame
+-- nothing of the node has changed that a caller sees, nor a device, nor the bytes or the dirty flag
+-- of a frame
 abbrev pub IsSame : NodeState → NodeState → Type 0
 IsSame old new = SameView old new × KeepsBytes old.pool new.pool
 

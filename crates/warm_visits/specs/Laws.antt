@@ -1,5 +1,5 @@
--- The laws of visits among others: either way the whole has had the whole, and each shard what is its
--- own.
+-- Laws of visits, whatever others do between two entries: the errands together give the whole, each
+-- is of its own shard's pages and buckets, and messages that are taken out early are the answer's.
 use Rattle.std.specs.Prelude.{◌≡◌, ℕ, ◌%◌, ◌<◌, List, [], ◌∷◌, Some, ◌++◌}
 use Rattle.std.specs.List.{AllByRecursion}
 use Rattle.warm_stamps.specs.declared.Reference.{Reference}
@@ -17,7 +17,7 @@ use Rattle.warm_visits.specs.Visits.{giving, join_visit, raise_visit, receive_vi
 use Rattle.warm_visits.specs.Visits.{answered}
 use Rattle.warm_visits.specs.VisitMessages.{first_message, with_taken, without_message}
 
--- Others come between
+-- The whole
 
 -- an entry into a shard that is in any state
 abbrev pub EntersAny : VisitState → Errand → Said → VisitState → Type 0
@@ -33,14 +33,14 @@ abbrev pub gave_all : List (Operation Errand Said) → ReferenceSet
 gave_all [] = set_of_list []
 gave_all (e ∷ es) = gave_errand e.call.ask e.reply ∪ gave_all es
 
--- Once such a visit is over, its errands together gave these references, whatever others did
+-- The errands of such a visit, once it is over, together gave these references, whatever others did
 -- between two of them.
 abbrev pub GivesAll : (ℕ → VisitState) → ReferenceSet → Type 0
 GivesAll visit S = (count : ℕ) (entries : List (Operation Errand Said)) (w : VisitState)
     → IsShardCount count → Runs EntersAny (visit count) entries w → w.plan ≡ []
     → (R : ReferenceSet) → history (R ∪ gave_all entries) ≡ history (R ∪ S)
 
--- Either way the whole has had the whole.
+-- what a visit gives all shards together: the batch, the horizon, the message, the history
 pub record WholeIsGiven : Type 0 where
   pub absorbs : (id : ℕ) (batch : List Reference)
       → GivesAll (λ n. absorb_visit id n batch) (set_of_list batch)
@@ -49,7 +49,7 @@ pub record WholeIsGiven : Type 0 where
       → GivesAll (λ n. receive_visit id n message) (refs_in message)
   pub joins : (id : ℕ) (h : HistoryView) → GivesAll (λ n. join_visit id n h) (references_of h)
 
--- Whose pages
+-- Each shard's own
 
 -- what is asked of a shard is of its pages and buckets alone
 abbrev pub IsOwnAsk : ℕ → ℕ → Ask → Type 0
@@ -75,8 +75,10 @@ pub record ErrandsAreOwn : Type 0 where
   pub stays : (v w : VisitState) (e : Errand) (said : Said) → IsShardCount v.count
       → AreOwnErrands v.count v.plan → EntersAny v e said w → AreOwnErrands w.count w.plan
 
--- Whoever takes the messages of an answer out as they are made has, with those that are left, the
--- answer: a visit from which none was taken makes the same entries, and has these before.
+-- Messages taken out early
+
+-- Messages of an answer, taken out as they are made, are with those that are left the answer: a
+-- visit from which none was taken makes the same entries, and has these before.
 pub record TakenAreTheAnswer : Type 0 where
   pub enters : (taken messages : List Message) (v w : VisitState) (e : Errand) (said : Said)
       (old new : NodeState) → v.made ≡ answered messages → Enters v old e said w new

@@ -1,4 +1,4 @@
--- The shard of a page, and the references to pages of one shard.
+-- How many shards there can be, the shard of a page, and the references to pages of one shard.
 use Rattle.std.specs.Prelude.{ℕ, ◌%◌, ◌≤◌, IsTrue, nat_eq, nat_lt}
 use Rattle.std.specs.Int.{is_power_of_two}
 use Rattle.warm_stamps.specs.declared.PageId.{PageId}

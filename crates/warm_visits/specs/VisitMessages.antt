@@ -39,17 +39,17 @@ without_of made after v = v
 abbrev pub without_message : VisitState → VisitState
 without_message v = without_of v.made v.after v
 
--- the visit goes on with the errand that was refused
+-- the visit, which goes on with the errand that was refused
 abbrev pub resumed : VisitState → VisitState
 resumed v = record v { stopped = false }
 
 -- Taken out one after the other
 
--- what is made, with these messages before it
+-- what is made, with these messages before its own
 abbrev pub put_before : List Message → Made → Made
 put_before taken (answered messages) = answered (taken ++ messages)
 put_before taken made = made
 
--- the visit with those that were taken before its own
+-- the visit, with the messages that were taken before its own
 abbrev pub with_taken : List Message → VisitState → VisitState
 with_taken taken v = record v { made = put_before taken v.made }

@@ -47,13 +47,15 @@ pub record IsFirstPart (parts : Parts) (start first : ℕ) : Type 0 where
   pub passed : (i : ℕ) → start ≤ i → i < first → (part_at parts i).given ≡ []
   pub there : first < parts_count parts → (part_at parts first).given ≢ []
 
+-- A visit
+
 -- the errands from this shard on, once all are raised
 abbrev pub work_from : ℕ → Work → ℕ → List Errand
 work_from count Raise first = []
 work_from count (Give parts) first = give_from count (part_at parts) first
 work_from count (Read reading) first = reading.plan
 
--- the earliest horizon, with this one; and as what a visit has made
+-- the earliest horizon, with this one
 abbrev pub earlier : Option ℕ → ℕ → ℕ
 earlier None horizon = horizon
 earlier (Some earliest) horizon = min earliest horizon
@@ -69,7 +71,7 @@ abbrev pub after_of : Work → After
 after_of (Read reading) = reading.after
 after_of work = ends
 
--- the visit that is held so
+-- the visit that is held so: its errands raise shards, and then do this work
 abbrev pub visit_of : ℕ → ℕ → ℕ → ℕ → ℕ → Work → Option ℕ → Bool → VisitState
 visit_of id count time rising shard work kept stopped = record {
   id = id;

@@ -71,7 +71,7 @@ AddsOffer count old g (Err why) new h = NodeSays old offering refused new × (h 
 
 -- Sending
 
--- a page number and a device's number have 64 and 16 bits
+-- a page whose device's number has 16 bits, and its own 64; or none
 abbrev pub IsPageOrNone : Option PageId → Type 0
 IsPageOrNone None = Unit {0}
 IsPageOrNone (Some p) = (p.dev < 2 ^ 16) × (p.no < 2 ^ 64)
@@ -97,7 +97,7 @@ abbrev pub sending_visit : ℕ → ℕ → Sending → VisitState
 sending_visit id count s = begun id count (send_from count s.bucket s.later s.after)
     (answered s.messages.items) (asks_for id s.want)
 
--- A task
+-- Tasks
 
 -- what follows the last offer
 abbrev pub waits_for : Option (List (List ℕ)) → After
@@ -136,14 +136,18 @@ pub record IsReadingVisit (count : ℕ) (task : Task) : Type 0 where
   pub some : 0 < count
   pub place : IsTask count task
 
+-- One more offer
+
 -- The next shard has offered, and nothing is compared yet; or it was the last one, and the buckets
 -- that differ are sent next; or it refused, and nothing has changed.
-abbrev pub GathersOne : ℕ → ℕ → Gathering → NodeState → Result (Option Sending) NodeFault → Gathering
-    → NodeState → Type 0
+abbrev pub GathersOne : ℕ → ℕ → Gathering → NodeState → Result (Option Sending) NodeFault
+    → Gathering → NodeState → Type 0
 GathersOne id count g old (Ok None) h new =
     HasReadOne (gathering_visit id count g) old (gathering_visit id count h) new
     × IsBeforeLast h.shard count h.waiting
 GathersOne id count g old (Ok (Some s)) h new =
-    HasReadOne (gathering_visit id count g) old (sending_visit id count s) new × IsPageOrNone s.after
+    HasReadOne (gathering_visit id count g) old (sending_visit id count s) new
+    × IsPageOrNone s.after
 GathersOne id count g old (Err why) h new = (h ≡ g) × (why ≡ Memory)
-    × HasEntered (gathering_visit id count g) old (record (gathering_visit id count g) { stopped = true }) new
+    × HasEntered (gathering_visit id count g) old
+    (record (gathering_visit id count g) { stopped = true }) new

@@ -1,5 +1,6 @@
 -- A call of the whole as a visit: the errands that it still has, each at one shard, and what those
--- before have made. Whoever has the shards lets it into that of its next errand, until none is left.
+-- before have made. Whoever has the shards lets it into that of its next errand, until none is
+-- left.
 use Rattle.std.specs.Prelude.{◌≡◌, ◌≢◌, ◌↔◌, ℕ, ◌+◌, ◌*◌, ◌-◌, ◌%◌, ◌^◌, ◌<◌, ◌==◌, if◌then◌else◌}
 use Rattle.std.specs.Prelude.{max, min, Bool, true, false, IsTrue, List, [], ◌∷◌, ◌++◌, map}
 use Rattle.std.specs.Prelude.{replicate, Option, Some, None, Result, Ok, Err}
@@ -111,30 +112,30 @@ NodeSays old copying (copied h) new = (h ≡ old.history) × IsSame old new
 NodeSays old copying refused new = IsSame old new
 NodeSays old copying said new = ⊥
 
--- the horizon of one more shard
+-- the earliest horizon, with that of one more shard
 abbrev pub keeps : Made → ℕ → Made
 keeps (raised None) horizon = raised (Some horizon)
 keeps (raised (Some earliest)) horizon = raised (Some (min earliest horizon))
 keeps made horizon = made
 
--- the offer of one more shard
+-- the offer of one more shard is gathered: the later horizon, and the digests of its buckets
 abbrev pub GathersOffer : ℕ → ℕ → ℕ → List (List ℕ) → Made → Made → Type 0
 GathersOffer count i horizon table (gathered latest digests) (gathered later filled) =
     (later ≡ max latest horizon) × FillsShard count i digests table filled
 GathersOffer count i horizon table before after = ⊥
 
--- one more message; one without entries is none
+-- what is made, with one more message; one without entries is none
 abbrev pub with_message : Made → Message → Made
 with_message (answered messages) (Entries sender horizon []) = answered messages
 with_message (answered messages) message = answered (messages ++ message ∷ [])
 with_message made message = made
 
--- if more entries of a bucket follow than a message holds: those after its last page
+-- the errand for the entries after a message's last page, if more of the bucket follow
 abbrev pub goes_on : ℕ → ℕ → Message → Bool → List Errand
 goes_on i bucket message true = at_shard i (sending bucket (last_page (entries_in message))) ∷ []
 goes_on i bucket message false = []
 
--- the history of one more shard
+-- the join of histories, with that of one more shard
 abbrev pub with_history : Made → HistoryView → Made
 with_history (joined h) g = joined (join h g)
 with_history made g = made
@@ -144,11 +145,11 @@ abbrev pub send_plan : ℕ → ℕ → List Errand
 send_plan count request =
     map (λ b. at_shard (b % count) (sending b None)) (requested_buckets request)
 
--- If all have offered that are to be compared: the entries of the buckets that differ, and then a
--- request for these; nothing if none differs.
+-- What follows an offer. If digests wait and it was the last one: the entries of the buckets that
+-- differ, and then a request for these; nothing if none differs. Else the visit goes on as it is.
 abbrev pub ComparesOffers : List Errand → After → Made → VisitState → VisitState → Type 0
-ComparesOffers [] (compares digests) (gathered horizon table) v w = (request : ℕ) × (request < 2 ^ 64)
-    × MarksDiffering request digests table
+ComparesOffers [] (compares digests) (gathered horizon table) v w = (request : ℕ)
+    × (request < 2 ^ 64) × MarksDiffering request digests table
     × (w ≡ begun v.id v.count (send_plan v.count request) (answered [])
     (if request == 0 then ends else requests (Want v.id horizon request)))
 ComparesOffers rest after made v w = w ≡ v
@@ -205,7 +206,7 @@ result_of true = Err Memory
 
 -- How far it is to the end
 
--- More than the number of pages after this one.
+-- a number larger than that of the pages after this one
 abbrev pub pages_after : Option PageId → ℕ
 pages_after None = 2 ^ 80 + 1
 pages_after (Some p) = 2 ^ 80 - (p.dev * 2 ^ 64 + p.no)
@@ -220,23 +221,23 @@ abbrev pub entries_for_all : List Errand → ℕ
 entries_for_all [] = 0
 entries_for_all (e ∷ es) = entries_for e.ask + entries_for_all es
 
--- those that follow a comparison: at most one errand for each bucket
+-- how many entries what follows takes at most: after a comparison, one errand for each bucket
 abbrev pub entries_after : After → ℕ
 entries_after (compares digests) = BUCKETS * entries_for (sending 0 None)
 entries_after after = 0
 
--- how many are left; none if an errand was refused
+-- how many entries are left at most; none if an errand was refused
 abbrev pub entries_unless : Bool → List Errand → After → ℕ
 entries_unless true plan after = 0
 entries_unless false plan after = entries_for_all plan + entries_after after
 
--- no more entries than this are left, however much the shards send
+-- how many entries of a visit are left at most, however much the shards send
 abbrev pub entries_left : VisitState → ℕ
 entries_left v = entries_unless v.stopped v.plan v.after
 
 -- The calls of the whole
 
--- the shards, in their order
+-- the numbers of the shards, in their order
 abbrev pub each_shard : ℕ → List ℕ
 each_shard count = range_with_len 0 count
 
@@ -253,31 +254,31 @@ part_errand i S (r ∷ rs) = at_shard i (giving S) ∷ []
 abbrev pub give_part : ℕ → ReferenceSet → List Errand
 give_part i S = part_errand i S S.given
 
--- those are given references that have pages of them
+-- the errands that give references: to each shard those to its pages, if there are any
 abbrev pub give_plan : ℕ → ReferenceSet → List Errand
 give_plan count S = flat_map (λ i. give_part i (of_shard count i S)) (each_shard count)
 
--- each shard is raised, and then those are given references that have pages of them
+-- the errands that raise each shard
 abbrev pub raise_plan : ℕ → ℕ → List Errand
 raise_plan count time = at_each count (giving (at_horizon time))
 
--- each shard is raised, and then those are given references that have pages of them
+-- the errands that raise each shard, and then give references
 abbrev pub raise_and_give : ℕ → ReferenceSet → List Errand
 raise_and_give count S = raise_plan count S.horizon ++ give_plan count S
 
--- a batch: each shard is given the references to its pages
+-- the visit of a batch: each shard is given the references to its pages
 abbrev pub absorb_visit : ℕ → ℕ → List Reference → VisitState
 absorb_visit id count batch = begun id count (give_plan count (set_of_list batch)) nothing ends
 
--- a horizon
+-- the visit of a horizon: each shard is raised to it
 abbrev pub raise_visit : ℕ → ℕ → ℕ → VisitState
 raise_visit id count time = begun id count (raise_plan count time) (raised None) ends
 
--- references at their horizon
+-- the visit of references at their horizon
 abbrev pub give_visit : ℕ → ℕ → ReferenceSet → VisitState
 give_visit id count S = begun id count (raise_and_give count S) nothing ends
 
--- all that another history stands for
+-- the visit of another history: all that it stands for is given
 abbrev pub join_visit : ℕ → ℕ → HistoryView → VisitState
 join_visit id count h = give_visit id count (references_of h)
 
@@ -285,28 +286,32 @@ join_visit id count h = give_visit id count (references_of h)
 abbrev pub nothing_offered : Made
 nothing_offered = gathered 0 (replicate BUCKETS (replicate DIGEST_SIZE 0))
 
--- each shard offers its digests
+-- the visit in which each shard offers its digests
 abbrev pub offer_visit : ℕ → ℕ → VisitState
 offer_visit id count = begun id count (at_each count offering) nothing_offered ends
 
--- Each shard is raised to the horizon of a message. Then those are given its entries that have
--- pages of them; or those send that have requested buckets; or all offer, and this is compared.
+-- The visit of a message. Each shard is raised to its horizon. Then those are given its entries
+-- that have pages of them; or those send that have requested buckets; or all offer, and what they
+-- offer is compared.
 abbrev pub receive_visit : ℕ → ℕ → Message → VisitState
 receive_visit id count (Entries sender horizon entries) =
     give_visit id count (refs_in (Entries sender horizon entries))
 receive_visit id count (Want sender horizon request) =
     begun id count (raise_plan count horizon ++ send_plan count request) (answered []) ends
 receive_visit id count (Digest sender horizon digests) =
-    begun id count (raise_plan count horizon ++ at_each count offering) nothing_offered (compares digests)
+    begun id count (raise_plan count horizon ++ at_each count offering) nothing_offered
+    (compares digests)
 
 -- the message is one of entries
 abbrev pub HasEntries : Message → Type 0
 HasEntries (Entries sender horizon entries) = Unit {0}
 HasEntries message = ⊥
 
--- the history of each shard is copied
+-- the visit that copies the history of each shard
 abbrev pub copy_visit : ℕ → ℕ → VisitState
 copy_visit id count = begun id count (at_each count copying) (joined (history_of_entries [])) ends
+
+-- What was made
 
 -- the messages of the answer of a visit that has no errand left
 abbrev pub answers_of : Made → After → List Message
@@ -314,17 +319,17 @@ answers_of (answered messages) (requests message) = messages ++ message ∷ []
 answers_of (answered messages) after = messages
 answers_of made after = []
 
--- what it offers
+-- what all shards offer
 abbrev pub offer_in : ℕ → Made → Option Message
 offer_in id (gathered horizon table) = Some (Digest id horizon table)
 offer_in id made = None
 
--- the history that it copied
+-- the history that a visit copied
 abbrev pub copy_of : Made → Option HistoryView
 copy_of (joined h) = Some h
 copy_of made = None
 
--- the earliest horizon
+-- the earliest horizon of a shard that was raised
 abbrev pub kept_of : Made → Option ℕ
 kept_of (raised horizon) = horizon
 kept_of made = None

@@ -1,9 +1,9 @@
 //! The digests that shards offer, gathered into one table, and compared with others that wait.
 ghost use Rattle.std.specs.Prelude.{◌≡◌, ◌<◌, ℕ, [], IfOk};
 ghost use Rattle.warm_visits.specs.VisitMessages.{final_message};
-ghost use Rattle.warm_visits.specs.Visits.{ComparesOffers, VisitState, compares};
 ghost use Rattle.warm_visits.specs.VisitReads.{AddsOffer, GathersOne, IsPageOrNone, gathered_in};
 ghost use Rattle.warm_visits.specs.VisitReads.{gathering_visit, nothing_gathered, sending_visit};
+ghost use Rattle.warm_visits.specs.Visits.{ComparesOffers, VisitState, compares};
 
 use crate::digests::fill_digests;
 use crate::sending::{Sending, Wanted};

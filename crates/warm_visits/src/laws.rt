@@ -15,8 +15,8 @@ pub fn errands_are_own()
     ensures { ErrandsAreOwn }
 {}
 
-/// Whoever takes the messages of an answer out as they are made has, with those that are left, the
-/// answer.
+/// The messages that were taken out of an answer as they were made are, with those that are left,
+/// the answer.
 pub fn taken_are_the_answer()
     ensures { TakenAreTheAnswer }
 {}

@@ -2,12 +2,11 @@
 ghost use Rattle.std.specs.Prelude.{◌≡◌, ◌≢◌, ◌<◌, ◌≤◌, ℕ, [], if◌then◌else◌, nat_lt};
 ghost use Rattle.std.specs.Prelude.{IfNone, IfOk, IfSome, None, Some};
 ghost use Rattle.warm_visits.specs.VisitMessages.{final_message, first_message, without_message};
-ghost use Rattle.warm_visits.specs.Visits.{answered, answers_of, at_each};
-ghost use Rattle.warm_visits.specs.Visits.{begun, compares, copy_of, copy_visit, ends, next_shard};
-ghost use Rattle.warm_visits.specs.Visits.{nothing_offered, offer_in, offer_visit, offering};
-ghost use Rattle.warm_visits.specs.Visits.{send_plan};
 ghost use Rattle.warm_visits.specs.VisitReads.{IsReadingVisit, ReadsOne, copying_visit};
 ghost use Rattle.warm_visits.specs.VisitReads.{reading_of, waits_for};
+ghost use Rattle.warm_visits.specs.Visits.{answered, answers_of, at_each, begun, compares, copy_of};
+ghost use Rattle.warm_visits.specs.Visits.{copy_visit, ends, next_shard, nothing_offered, offer_in};
+ghost use Rattle.warm_visits.specs.Visits.{offer_visit, offering, send_plan};
 
 use crate::gathering::BoxedGathering;
 use crate::sending::Sending;

@@ -2,9 +2,9 @@
 ghost use Rattle.std.specs.Prelude.{◌≡◌, ◌↔◌, ℕ, [], IfOk, IsTrue, OnErr, OnOk, Some};
 ghost use Rattle.warm_frames.specs.Limits.{entries_in};
 ghost use Rattle.warm_peer.specs.Chunks.{last_page};
+ghost use Rattle.warm_visits.specs.VisitMessages.{final_message, without_message};
 ghost use Rattle.warm_visits.specs.VisitReads.{HasNoEntries, IsPageOrNone, ReadsOne, asks_for};
 ghost use Rattle.warm_visits.specs.VisitReads.{sending_visit};
-ghost use Rattle.warm_visits.specs.VisitMessages.{final_message, without_message};
 ghost use Rattle.warm_visits.specs.Visits.{answered, answers_of, begun, send_plan, with_message};
 
 use std::alloc::{AllocError, Global};

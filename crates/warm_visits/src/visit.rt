@@ -1,16 +1,16 @@
 //! A call of the whole as a value, which goes from shard to shard: it names the shard of its next
 //! errand, and enters that with one step.
 //!
-//! Whoever has the shards drives it: a loop over nodes, threads by turns, or C by its locks.
+//! Whoever has the shards drives it: a loop over nodes, or C by its locks.
 ghost use Rattle.std.specs.Prelude.{◌≡◌, ◌≢◌, ◌<◌, ◌≤◌, false, IfOk, IfSome, None};
 ghost use Rattle.warm_history.specs.Histories.{entries_of, history_of_entries_at, references_of};
 ghost use Rattle.warm_visits.specs.ShardNumbers.{IsShardCount};
 ghost use Rattle.warm_visits.specs.VisitParts.{IsReader, earlier, visit_of};
-ghost use Rattle.warm_visits.specs.declared.visit.Work.TheVariants.{Read};
 ghost use Rattle.warm_visits.specs.Visits.{HasEntered, absorb_visit, answers_of};
 ghost use Rattle.warm_visits.specs.Visits.{copy_of, copy_visit, entries_left, give_visit};
 ghost use Rattle.warm_visits.specs.Visits.{join_visit, kept_of, next_shard, offer_in, offer_visit};
 ghost use Rattle.warm_visits.specs.Visits.{raise_visit, receive_visit, result_of};
+ghost use Rattle.warm_visits.specs.declared.visit.Work.TheVariants.{Read};
 
 use crate::batch_parts::parts_of;
 use crate::giving::Parts;
