@@ -635,7 +635,9 @@ int visit_offer(visit *of) {
 }
 
 int visit_copy(visit *of) {
-    fake_begin(of, FAKE_COPYING, NULL);
+    void *block = malloc(1);
+    if (block == NULL) return WARM_MEMORY;
+    fake_begin(of, FAKE_COPYING, block);
     return WARM_OK;
 }
 

@@ -14,7 +14,7 @@ use Rattle.warm_gossip.specs.declared.fault.NodeFault.{NodeFault}
 use Rattle.warm_gossip.specs.declared.fault.NodeFault.TheVariants.{Memory}
 use Rattle.warm_visits.specs.VisitMessages.{final_message, first_message, resumed, without_message}
 use Rattle.warm_visits.specs.Visits.{HasEntered, VisitState, absorb_visit, copy_of, give_visit}
-use Rattle.warm_visits.specs.Visits.{kept_of, next_shard, offer_visit, receive_visit, result_of}
+use Rattle.warm_visits.specs.Visits.{kept_of, next_shard, receive_visit, result_of}
 use Rattle.warm_c_base.specs.declared.status.Refusal.TheVariants.{Closed, Dump, Frame, Node}
 use Rattle.warm_c_base.specs.declared.values.WarmPage.{WarmPage}
 use Rattle.warm_c_base.specs.declared.values.WarmReference.{WarmReference}
@@ -37,11 +37,11 @@ BeginsAbsorb batch old (Ok given) new =
     BeginsVisit (λ id n. absorb_visit id n (map reference_of batch)) old new
 BeginsAbsorb batch old (Err why) new = BatchRefused batch why × (new ≡ old)
 
--- all shards offer their digests; or memory failed, and the visit before is kept
-abbrev pub BeginsOffer : OpenVisit → Ending → OpenVisit → Type 0
-BeginsOffer old (Ok given) new = BeginsVisit offer_visit old new
-BeginsOffer old (Err (Node Memory)) new = new ≡ old
-BeginsOffer old (Err why) new = ⊥
+-- this visit is begun; or memory failed, and the visit before is kept
+abbrev pub BeginsOrKeeps : (ℕ → ℕ → VisitState) → OpenVisit → Ending → OpenVisit → Type 0
+BeginsOrKeeps visit old (Ok given) new = BeginsVisit visit old new
+BeginsOrKeeps visit old (Err (Node Memory)) new = new ≡ old
+BeginsOrKeeps visit old (Err why) new = ⊥
 
 -- A message is received, whose frame the bytes are, and which keeps the limits. Or the bytes are no
 -- frame, or the message does not keep a limit, or memory failed; the visit before is then kept.

@@ -1,8 +1,8 @@
 //! The calls of an open handle that begin a visit, in place of the one before.
 ghost use Rattle.std.specs.Prelude.{◌≡◌, None};
 ghost use Rattle.warm_visits.specs.VisitMessages.{idle_visit};
-ghost use Rattle.warm_visits.specs.Visits.{copy_visit, raise_visit};
-ghost use Rattle.warm_c_calls.specs.Visits.{BeginsAbsorb, BeginsLoad, BeginsOffer, BeginsReceive};
+ghost use Rattle.warm_visits.specs.Visits.{copy_visit, offer_visit, raise_visit};
+ghost use Rattle.warm_c_calls.specs.Visits.{BeginsAbsorb, BeginsLoad, BeginsOrKeeps, BeginsReceive};
 ghost use Rattle.warm_c_calls.specs.Visits.{BeginsVisit};
 
 use crate::history_calls::references_of;
@@ -44,17 +44,21 @@ impl OpenVisit {
     /// # Errors
     /// `Node`, with `Memory`: an allocation failed; nothing has changed.
     pub fn offer(&mut self, alloc: Global) -> Result<(), Refusal>
-        ensures { BeginsOffer self.old result self.new }
+        ensures { BeginsOrKeeps offer_visit self.old result self.new }
     {
         self.visit = Visit::offer(alloc, self.visit.id(), self.visit.count())?;
         Ok(())
     }
 
     /// Begins [`Visit::copy`].
-    pub fn copy(&mut self, alloc: Global)
-        ensures { BeginsVisit copy_visit self.old self.new }
+    ///
+    /// # Errors
+    /// `Node`, with `Memory`: an allocation failed; nothing has changed.
+    pub fn copy(&mut self, alloc: Global) -> Result<(), Refusal>
+        ensures { BeginsOrKeeps copy_visit self.old result self.new }
     {
-        self.visit = Visit::copy(alloc, self.visit.id(), self.visit.count());
+        self.visit = Visit::copy(alloc, self.visit.id(), self.visit.count())?;
+        Ok(())
     }
 
     /// Decodes a frame, checks its message, and begins [`Visit::receive`].

@@ -7,7 +7,7 @@ use Rattle.warm_frames.specs.declared.message.Message.{Message}
 use Rattle.warm_frames.specs.declared.message.Message.TheVariants.{Want}
 use Rattle.warm_gossip.specs.State.{NodeState}
 use Rattle.warm_visits.specs.declared.gathering.Gathering.{Gathering}
-use Rattle.warm_visits.specs.declared.reading.Copying.{Copying}
+use Rattle.warm_visits.specs.declared.copying.Copying.{Copying}
 use Rattle.warm_visits.specs.declared.sending.Sending.{Sending}
 use Rattle.warm_visits.specs.Visits.{After, ComparesOffers, Errand, HasEntered, Made, NodeSays, VisitState, at_shard, begun, compares, copied, copying, ends, entries_after, entries_for, entries_for_all, entries_left, gathered, joined, offered, offering, refused, requests, sending}
 use Rattle.warm_visits.specs.Plans.{from_shard}

@@ -4,13 +4,14 @@ use Rattle.std.specs.Prelude.{replicate, Option, Some, None, Result, Ok, Err}
 use Rattle.warm_stamps.specs.declared.PageId.{PageId}
 use Rattle.warm_stamps.specs.declared.TheConstants.{BUCKETS}
 use Rattle.warm_frames.specs.declared.layout.TheConstants.{DIGEST_SIZE}
+use Rattle.warm_history.specs.Histories.{history_of_entries}
 use Rattle.warm_frames.specs.declared.message.Message.{Message}
 use Rattle.warm_frames.specs.declared.message.Message.TheVariants.{Entries, Want}
 use Rattle.warm_gossip.specs.declared.fault.NodeFault.{NodeFault}
 use Rattle.warm_gossip.specs.declared.fault.NodeFault.TheVariants.{Memory}
 use Rattle.warm_gossip.specs.State.{NodeState}
 use Rattle.warm_visits.specs.declared.gathering.Gathering.{Gathering}
-use Rattle.warm_visits.specs.declared.reading.Copying.{Copying}
+use Rattle.warm_visits.specs.declared.copying.Copying.{Copying}
 use Rattle.warm_visits.specs.declared.reading.Task.{Task}
 use Rattle.warm_visits.specs.declared.reading.Task.TheVariants.{Copy, Gather, Send}
 use Rattle.warm_visits.specs.declared.sending.Sending.{Sending}
@@ -108,6 +109,10 @@ waits_for (Some digests) = compares digests
 abbrev pub gathering_visit : ℕ → ℕ → Gathering → VisitState
 gathering_visit id count g = begun id count (from_shard g.shard count offering) (gathered_in g)
     (waits_for g.waiting)
+
+-- no history was copied yet
+abbrev pub nothing_copied : Copying
+nothing_copied = record { shard = 0; history = history_of_entries [] }
 
 -- a visit that copies
 abbrev pub copying_visit : ℕ → ℕ → Copying → VisitState

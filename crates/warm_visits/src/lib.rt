@@ -11,6 +11,7 @@
 #![tactic(auto)]
 
 mod batch_parts;
+mod copying;
 mod digests;
 mod gathering;
 mod giving;

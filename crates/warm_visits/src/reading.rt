@@ -8,6 +8,7 @@ ghost use Rattle.warm_visits.specs.Visits.{answered, answers_of, at_each, begun,
 ghost use Rattle.warm_visits.specs.Visits.{copy_visit, ends, next_shard, nothing_offered, offer_in};
 ghost use Rattle.warm_visits.specs.Visits.{offer_visit, offering, send_plan};
 
+use crate::copying::BoxedCopying;
 use crate::gathering::BoxedGathering;
 use crate::sending::Sending;
 use std::alloc::{AllocError, Global};
@@ -34,14 +35,7 @@ pub(crate) enum Task {
     // The entries of buckets are sent.
     Send(Sending),
     // The histories of all shards are joined.
-    Copy(Copying),
-}
-
-// The history of the shards before one.
-#[derive(Drop)]
-pub(crate) struct Copying {
-    pub(crate) shard: usize,
-    pub(crate) history: History,
+    Copy(BoxedCopying),
 }
 
 impl Model for Reading {
@@ -53,20 +47,6 @@ impl Model for Reading {
     ghost view = { λ r. reading_of r.id r.count r.task };
 
     ghost invariant = { λ r. IsReadingVisit r.count r.task };
-}
-
-impl Copying {
-    // Joins the history of the next shard.
-    fn copy<D: PageDevice>(&mut self, node: &Node<D>, count: usize) -> Result<(), NodeFault>
-        requires { self.old.shard < count }
-        ensures copied { (id : ℕ) → ReadsOne (copying_visit id count self.old) node.now result
-            (copying_visit id count self.new) node.now }
-        ensures within { self.new.shard ≤ count }
-    {
-        self.history.join(node.history())?;
-        self.shard += 1;
-        Ok(())
-    }
 }
 
 // Runs the next errand of a task.
@@ -163,21 +143,20 @@ impl Reading {
         }
     }
 
-    /// The history of each shard is copied. Allocation-free.
-    pub(crate) fn copies(alloc: Global, id: ReplicaId, count: usize) -> Reading
+    /// The history of each shard is copied.
+    ///
+    /// `AllocError` occurs only if an allocation fails.
+    pub(crate) fn copies(alloc: Global, id: ReplicaId, count: usize) -> Result<Reading, AllocError>
         requires { 0 < count }
-        ensures { result ≡ copy_visit id count }
+        ensures { IfOk result (λ reading. reading ≡ copy_visit id count) }
     {
-        let copying = Copying {
-            shard: 0,
-            history: History::new(alloc),
-        };
-        Reading {
+        let copying = BoxedCopying::empty(alloc)?;
+        Ok(Reading {
             alloc,
             id,
             count,
             task: Task::Copy(copying),
-        }
+        })
     }
 
     /// The shard of the next errand, if there is one.
@@ -192,6 +171,8 @@ impl Reading {
     /// changes.
     ///
     /// `Memory` occurs only if an allocation fails.
+    // Not inlined: a visit that gives would clear the room of both tables of digests, too.
+    #[inline(never)]
     pub(crate) fn enter<D: PageDevice>(&mut self, node: &mut Node<D>) -> Result<(), NodeFault>
         requires { next_shard self.old ≢ None }
         ensures { ReadsOne self.old node.old result self.new node.new }
@@ -240,8 +221,7 @@ impl Reading {
         let Task::Copy(copying) = task else {
             return None;
         };
-        let Copying { shard: _, history } = copying;
-        Some(history)
+        Some(copying.into_history())
     }
 
     /// The first message that waits, if one does.
@@ -279,7 +259,7 @@ impl Reading {
         ensures none { IfNone result (copy_of self.now.made ≡ None) }
     {
         match &self.task {
-            Task::Copy(copying) => Some(&copying.history),
+            Task::Copy(copying) => Some(copying.history()),
             _ => None,
         }
     }
@@ -297,7 +277,7 @@ fn next_in(task: &Task, count: usize) -> Option<usize>
             Some(bucket) => Some(usize::from(bucket.get()) % count),
             None => None,
         },
-        Task::Copy(copying) => below(copying.shard, count),
+        Task::Copy(copying) => below(copying.shard(), count),
     }
 }
 

@@ -242,12 +242,15 @@ impl Visit {
         }
     }
 
-    /// The visit that copies the history of each shard. Allocation-free.
-    pub fn copy(alloc: Global, id: ReplicaId, count: usize) -> Visit
+    /// The visit that copies the history of each shard.
+    ///
+    /// `AllocError` occurs only if an allocation fails.
+    pub fn copy(alloc: Global, id: ReplicaId, count: usize) -> Result<Visit, AllocError>
         requires { IsShardCount count }
-        ensures { result ≡ copy_visit id count }
+        ensures { IfOk result (λ visit. visit ≡ copy_visit id count) }
     {
-        Visit::reads(id, count, 0, count, Reading::copies(alloc, id, count))
+        let reading = Reading::copies(alloc, id, count)?;
+        Ok(Visit::reads(id, count, 0, count, reading))
     }
 
     /// The number of the shard of its next errand; `None` if no errand is left, or a shard has

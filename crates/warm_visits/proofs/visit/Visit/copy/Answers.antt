@@ -11,8 +11,8 @@ copies-requires c = some_count c.args.count c.requires
 
 pub reads-requires-clause-reads : goal.reads-requires-clause-reads
 reads-requires-clause-reads c =
-    subst (λ (v : VisitState). IsReader c.args.id c.args.count v) (sym c.copies.ensures) (reader_of c.args.id c.args.count (at_each c.args.count copying) (joined (history_of_entries [])) ends tt)
+    subst (λ (v : VisitState). IsReader c.args.id c.args.count v) (sym c.in_ok-reading.ensures) (reader_of c.args.id c.args.count (at_each c.args.count copying) (joined (history_of_entries [])) ends tt)
 
 pub returns : goal.returns
 returns c =
-    c.reads.ensures ∙ reads_only c.args.id c.args.count 0 c.copies.result (copy_visit c.args.id c.args.count) c.copies.ensures (reader_of c.args.id c.args.count (at_each c.args.count copying) (joined (history_of_entries [])) ends tt)
+    c.reads.ensures ∙ reads_only c.args.id c.args.count 0 c.in_ok-reading.reading (copy_visit c.args.id c.args.count) c.in_ok-reading.ensures (reader_of c.args.id c.args.count (at_each c.args.count copying) (joined (history_of_entries [])) ends tt)

@@ -4,7 +4,7 @@ use Rattle.warm_history.specs.Histories.{HistoryView}
 use Rattle.warm_gossip.specs.declared.fault.NodeFault.{NodeFault}
 use Rattle.warm_visits.specs.VisitReads.{ReadsOne, copying_visit}
 use Rattle.warm_visits.proofs.VisitReadsTasks.{copies_one, copies_refused}
-use Rattle.warm_visits.proofs.reading.Copying.copy.Goals as goal
+use Rattle.warm_visits.proofs.copying.Copying.copy.Goals as goal
 
 pub returns-clause-copied : goal.returns-clause-copied
 returns-clause-copied g c id =
