@@ -287,7 +287,9 @@ static void test_loads_alone(void) {
     nothing_left();
 }
 
-/* The same of a message with an entry of the first shard, and one of the third if there is one. */
+/* A message has an entry of the first shard, and one of the third if there is one. Without memory
+ * the first shard may have its part, and all have the message's horizon, unless it was refused
+ * before. So it is of digests, which have no parts. */
 static void test_receives_in_parts(void) {
     const uint8_t entries[10] = {FAKE_ENTRIES, 3, 0, 0, 2}, digests[66] = {FAKE_DIGESTS, 5};
     for (size_t count = 1; count <= 4; count *= 4) {
