@@ -478,7 +478,7 @@ pub extern "C" fn node_next(
 /// Writes the frame with the first 1000 entries of a bucket, of those whose latest stamp is not
 /// before the time `since`, and, if `has_after`, whose page is greater than `after`; its length;
 /// how many entries it has; whether more of them follow, 1 or 0; and the page of the last one,
-/// after which to go on. Where there is none, `last` is unchanged.
+/// after which to go on. If there is none, `last` is unchanged.
 ///
 /// # Errors
 /// The buffer, `entries`, `more` and `last` are unchanged.
