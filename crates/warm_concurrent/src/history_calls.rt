@@ -162,7 +162,7 @@ fn warm_list_in<D: PageDevice + Send, R: Wait>(
 
 impl<D: PageDevice + Send> SharedShards<D> {
     /// Adds references to the history: each shard that has a part of the batch absorbs it in one
-    /// turn, in the order of the shards. The batch is read once.
+    /// turn, in the order of the shards. The batch is read twice.
     ///
     /// # Errors
     /// `Node(Memory)` at shard 0: no memory was left for the parts; nothing has changed. Otherwise

@@ -7,6 +7,7 @@ ghost use Rattle.warm_visits.specs.ShardNumbers.{IsShardCount, shard_of};
 use crate::shard_numbers::shard_of;
 use std::alloc::{AllocError, Global};
 use warm_pool::NamesPage;
+use warm_stamps::BUCKETS;
 
 // Whether all items name pages of this shard.
 fn are_of<T: NamesPage>(items: &[T], count: usize, shard: usize) -> bool
@@ -43,19 +44,36 @@ pub fn only_shard<T: NamesPage>(items: &[T], count: usize) -> Option<usize>
     Some(shard)
 }
 
-// As many empty lists.
-fn empty_parts<T: NamesPage>(alloc: Global, count: usize) -> Result<Vec<Vec<T>>, AllocError>
+// How many items each shard has. They size the parts alone: so no contract speaks of them.
+fn sizes_of<T: NamesPage>(items: &[T], count: usize) -> [usize; BUCKETS as usize]
+    requires { IsShardCount count }
+{
+    let mut sizes = [0usize; BUCKETS as usize];
+    for item in items {
+        let shard = shard_of(count, item.named());
+        sizes[shard] = sizes[shard].saturating_add(1);
+    }
+    sizes
+}
+
+// As many empty lists, with room for so many items.
+fn empty_parts<T: NamesPage + Copy>(
+    alloc: Global,
+    count: usize,
+    sizes: &[usize; BUCKETS as usize],
+) -> Result<Vec<Vec<T>>, AllocError>
+    requires { IsShardCount count }
     ensures { IfOk result (λ parts. AreShardParts (λ item. T.named item) count [] parts.items) }
 {
     let mut parts = Vec::with_capacity(alloc, count)?;
-    for _shard in 0..count {
-        parts.push_reserved(Vec::new(alloc));
+    for shard in 0..count {
+        parts.push_reserved(Vec::with_capacity(alloc, sizes[shard])?);
     }
     Ok(parts)
 }
 
 /// The references of a batch, or entries, by the shards of their pages: for each shard its own, in
-/// order. The items are read once.
+/// order. The items are read twice.
 ///
 /// `AllocError` occurs only if an allocation fails.
 pub fn parts_of<T: NamesPage + Copy>(
@@ -67,7 +85,7 @@ pub fn parts_of<T: NamesPage + Copy>(
     ensures { IfOk result (λ parts.
         AreShardParts (λ item. T.named item) count items.now parts.items) }
 {
-    let mut parts = empty_parts(alloc, count)?;
+    let mut parts = empty_parts(alloc, count, &sizes_of(items, count))?;
     for item in items {
         let shard = shard_of(count, item.named());
         parts[shard].push(*item)?;
