@@ -128,6 +128,7 @@ PagesGo old call new =
     ⊎ (((p : PageId) × Brings old call p × (fixes : ℕ) × (slot : Slot) × PutsIn old.history old.pool p fixes slot new.pool)
     ⊎ ((call ≡ Restart) × Emptied old.pool new.pool))
 
+-- what a call does to the history, and to the pages in the frames
 abbrev pub Effect : NodeView → Call → Reply → NodeView → Type 0
 Effect old call reply new = HistoryGoes old.history call reply new.history × PagesGo old call new
 
@@ -147,7 +148,6 @@ taken : (T : ReferenceSet) (call : Call) (reply : Reply) (old new : NodeView)
 taken T call reply old new gives step =
     (inr (inl (T, ap (λ n. n.history) step, gives)), inl (same_pool old.pool new.pool (ap (λ n. n.pool) step)))
 
--- what each call does to the history, and to the pages in the frames
 pub step_goes : (call : Call) (reply : Reply) (old new : NodeView) → Step old call reply new
     → Effect old call reply new
 step_goes (Absorb batch) Done old new step = taken (set_of_list batch) (Absorb batch) Done old new (λ S. refl) step
@@ -221,7 +221,7 @@ victim_left {h} {v} puts q held = elim puts.to_load [
 ]
 
 -- a page that leaves was in that frame
-leaves_as_victim : {h : HistoryView} {v w : PoolView} {p : PageId} {fixes : ℕ} {slot : Slot}
+pub leaves_as_victim : {h : HistoryView} {v w : PoolView} {p : PageId} {fixes : ℕ} {slot : Slot}
     → PutsIn h v p fixes slot w → (q : PageId) → IsEvicted v w q
     → IsVictim (references_of h) (unfixed_pages v) (Some q)
 leaves_as_victim {h} {v} puts q (was, gone) =
