@@ -15,7 +15,7 @@ use Rattle.warm_frame_table.specs.Selection.{is_from}
 use Rattle.warm_frame_table.proofs.CountLemmas.{count_most}
 use Rattle.warm_pool.specs.declared.fault.PoolFault.TheVariants.{Fault, Fixed, NoDevice}
 use Rattle.warm_pool.specs.Forgetting.{AreUnfixedFrom, ForgetRefused, MayForget}
-use Rattle.warm_pool.specs.Retiring.{Emptied, emptied}
+use Rattle.warm_pool.specs.Retiring.{Emptied}
 use Rattle.warm_pool.specs.State.{IsPool, PoolState, nth_device}
 use Rattle.warm_pool.specs.View.{FrameView, IsUnfixed, PoolView, frame_at, frame_view, view_of}
 use Rattle.warm_pool.specs.WritingBack.{WriteBackFails, cleaned_to}
@@ -27,16 +27,15 @@ use Rattle.warm_gossip.specs.declared.fault.NodeFault.TheVariants.{Pool}
 use Rattle.warm_gossip.specs.Clauses.{DevicesAfter, Goes, OfPool}
 use Rattle.warm_gossip.specs.State.{NodeState, NodeView, node_view}
 use Rattle.warm_gossip.specs.Step.{IsFailed, OnPool, Step}
-use Rattle.warm_gossip.proofs.EngineLemmas.{known_pool}
+use Rattle.warm_gossip.proofs.BringsLemmas.{vacant}
 use Rattle.warm_shards.specs.Shards.{AreShards, IsShard, held, no_shard, shard_at, whole}
 use Rattle.warm_visits.specs.ShardNumbers.{IsShardCount, shard_of}
 use Rattle.warm_shards.specs.EachShard.{DeviceFails, HasFixed, HasForgotten, IsClean, IsUnchanged, IsWritten, OfEach, OfFirst, RestartRefused, RestartStops, Rises, ShardFlushFails, ShardForgetsPages, ShardRestarts, ShardSettles, ShardWriteFails}
 use Rattle.warm_shards.specs.EachShard.{ShardsAreUnfixed, StopsAtShard, WriteBackStops}
 use Rattle.warm_shards.proofs.Buckets.{shard_horizon}
-use Rattle.warm_shards.proofs.Calls.{HasOnly, pool_shard, read_at, same_shard}
-use Rattle.warm_shards.proofs.EngineCalls.{forgotten_own, same_own}
+use Rattle.warm_shards.proofs.Calls.{alone_known, known_shard, read_at, same_shard}
+use Rattle.warm_shards.proofs.EngineCalls.{forgotten_own, frames_shard}
 use Rattle.warm_shards.proofs.AreShardsLemmas.{all_shards, at_each, some_shards}
-use Rattle.warm_shards.proofs.PoolCalls.{OnlyPool}
 use Rattle.warm_shards.proofs.WholeLemmas.{none_joined}
 
 abbrev pub Change : Type 1
@@ -154,18 +153,12 @@ stops_shards done fails left old new one two three are have =
       | inr y ↦ elim y [ inl x ↦ two count number i n m was x | inr x ↦ three count number i n m was x ]
     ]) are (stops_each done fails left old new have)
 
-pub pool_stays : (latest : ℕ) (change : Change)
-    → ((P : PageId → Type 0) (n m : NodeState) → HasOnly P (view_of n.pool) → change n m → OnlyPool P n m)
-    → StaysShard latest latest change
-pool_stays latest change only count number i n m was by =
-    let pool = only (λ p. shard_of count p ≡ i) n m was.own.resident by in
-    pool_shard count number latest i n m was pool.alone pool.own
-
 pub unchanged_stays : (latest : ℕ) → StaysShard latest latest IsUnchanged
 unchanged_stays latest count number i n m was same = subst (IsShard count number latest i) (sym same) was
 
 pub forgets_stays : (latest dev from : ℕ) → StaysShard latest latest (ShardForgetsPages dev from)
-forgets_stays latest dev from = pool_stays latest (ShardForgetsPages dev from) (λ P n m own by. forgotten_own P n m dev from own by.0 by.1)
+forgets_stays latest dev from count number i n m was by =
+    known_shard count number latest i n m was by.0 (forgotten_own count i n.pool m.pool dev from by.1 was.own.resident)
 
 pub written_stays : (latest : ℕ) → StaysShard latest latest IsWritten
 written_stays latest count number i n m was by = same_shard count number latest i n m was by.0
@@ -174,16 +167,12 @@ pub settles_stays : (latest : ℕ) → StaysShard latest latest ShardSettles
 settles_stays latest count number i n m was by = same_shard count number latest i n m was by.0
 
 pub write_fails_stays : (latest : ℕ) → StaysShard latest latest ShardWriteFails
-write_fails_stays latest = pool_stays latest ShardWriteFails (λ P n m own by. record {
-  alone = known_pool n m by.0;
-  own = same_own P (view_of n.pool) (view_of m.pool) (ap (λ (v : PoolView). v.frames) by.1.fails.becomes) own;
-})
+write_fails_stays latest count number i n m was by =
+    frames_shard count number latest i n m by.0 (ap (λ (v : PoolView). v.frames) by.1.fails.becomes) was
 
 pub flush_fails_stays : (latest : ℕ) → StaysShard latest latest ShardFlushFails
-flush_fails_stays latest = pool_stays latest ShardFlushFails (λ P n m own by. record {
-  alone = by.0.0;
-  own = same_own P (view_of n.pool) (view_of m.pool) (ap (λ (v : PoolView). v.frames) by.0.1.1.becomes) own;
-})
+flush_fails_stays latest count number i n m was by =
+    frames_shard count number latest i n m (alone_known n m _ by.0.0) (ap (λ (v : PoolView). v.frames) by.0.1.1.becomes) was
 
 -- ---- writing back
 
@@ -315,19 +304,6 @@ pub fails_risen : (horizon : ℕ) (fails : Change) (old ns new : List NodeState)
 unfolding gone_stops
 fails_risen horizon fails old ns new k n m d lt at by have risen =
     stops_risen horizon fails old (set ns k m) new k (gone_stops ShardRestarts fails old ns k n m d lt at by have) refl risen
-
-abbrev no_frame : FrameView
-no_frame = record { page = None; generation = 0; fixes = 0 }
-
-all_emptied : (fs : List FrameView) (k : ℕ) → (get_or (map emptied fs) k no_frame).page ≡ None
-all_emptied [] k = refl
-all_emptied (f ∷ fs) zero = refl
-all_emptied (f ∷ fs) (suc k) = all_emptied fs k
-
-pub vacant : (v w : PoolView) → Emptied v w → (k : ℕ) (p : PageId) → (frame_at w k).page ≡ Some p → ⊥
-vacant v w gone k p at =
-    let none : (frame_at w k).page ≡ None = ap (λ (x : PoolView). (frame_at x k).page) gone.becomes ∙ all_emptied v.frames k in
-    let no : None ≡ Some p = sym none ∙ at in cc
 
 empty_shard : (count number i horizon : ℕ) (v : PoolView) (m : NodeState) → m.id ≡ number
     → m.history ≡ history_of_entries_at horizon [] → Emptied v (view_of m.pool)

@@ -6,23 +6,10 @@ use Rattle.warm_stamps.specs.declared.PageId.{PageId}
 use Rattle.warm_devices.specs.Device.{DeviceState}
 use Rattle.warm_frame_table.specs.Frames.{nth_frame}
 use Rattle.warm_pool.specs.State.{IsPool, PoolState, no_device, nth_device}
-use Rattle.warm_pool.specs.View.{FrameView, IsResident, PoolView, frame_at, frame_view, view_of}
+use Rattle.warm_pool.specs.View.{FrameView, PoolView, frame_at, frame_view, view_of}
+use Rattle.warm_gossip.proofs.BringsLemmas.{is_resident}
 use Rattle.warm_shards.specs.ShardsOfNodes.{AreOwnOf}
 use Rattle.warm_shards.specs.Shards.{HasPagesOf}
-
-abbrev no_frame : FrameView
-no_frame = record { page = None; generation = 0; fixes = 0 }
-
-there_is : (fs : List FrameView) (k : ℕ) (p : PageId) → (get_or fs k no_frame).page ≡ Some p
-    → k < length fs
-there_is [] k p at = let no : None ≡ Some p = at in absurd (cc)
-there_is (f ∷ fs) zero p at = omega arith
-there_is (f ∷ fs) (suc k) p at = let lt = there_is fs k p at in omega (arith, lt)
-
--- a page in a frame is resident
-pub is_resident : (v : PoolView) (k : ℕ) (p : PageId) → (frame_at v k).page ≡ Some p
-    → IsResident v p
-is_resident v k p at = record { frame = k; there = there_is v.frames k p at; holds = at }
 
 -- if the resident pages of each device are of the shard, all are
 pub all_own : (count i : ℕ) (s : PoolState) → IsPool s
