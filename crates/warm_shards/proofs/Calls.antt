@@ -23,7 +23,7 @@ use Rattle.warm_gossip.proofs.VictimLemmas.{no_frame}
 use Rattle.warm_shards.specs.Clauses.{KeepPools, SameShards}
 use Rattle.warm_shards.specs.Shards.{AreShards, HasPagesOf, HoldsPagesOf, IsShard, held, no_shard, shard_at, whole}
 use Rattle.warm_visits.specs.ShardNumbers.{shard_of}
-use Rattle.warm_shards.proofs.AreShardsLemmas.{all_shards, at_each}
+use Rattle.warm_shards.proofs.AreShardsLemmas.{at_each, each_still}
 use Rattle.warm_shards.proofs.Places.{read_at as at_place}
 use Rattle.warm_shards.proofs.Pages.{all_held, all_pages, all_taken, each_has}
 use Rattle.warm_visits.proofs.GivenLemmas.{bytes_same}
@@ -137,10 +137,7 @@ same_shard count number latest i n m old same =
 pub same_shards : (old new : List NodeState) → SameShards old new → 0 < length old → AreShards old
     → AreShards new
 same_shards old new same some are =
-    let number = (shard_at old 0).id in
-    let latest = (shard_at old 0).history.horizon in
-    all_shards number latest new (rw same.count are.count) (omega (arith, same.count)) (λ i lt.
-    subst (λ c. IsShard c number latest i (shard_at new i)) (sym same.count) (same_shard (length old) number latest i (shard_at old i) (shard_at new i) (are.each i (omega (arith, same.count))) (same.views i)))
+    each_still (shard_at old 0).history.horizon old new same.count are (λ i lt was. same_shard (length old) (shard_at old 0).id (shard_at old 0).history.horizon i (shard_at old i) (shard_at new i) was (same.views i))
 
 -- ---- the pages in a pool
 

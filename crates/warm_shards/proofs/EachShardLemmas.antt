@@ -35,7 +35,7 @@ use Rattle.warm_shards.specs.EachShard.{ShardsAreUnfixed, StopsAtShard, WriteBac
 use Rattle.warm_shards.proofs.Buckets.{shard_horizon}
 use Rattle.warm_shards.proofs.Calls.{alone_known, known_shard, read_at, same_shard}
 use Rattle.warm_shards.proofs.EngineCalls.{forgotten_own, frames_shard}
-use Rattle.warm_shards.proofs.AreShardsLemmas.{all_shards, at_each, some_shards}
+use Rattle.warm_shards.proofs.AreShardsLemmas.{at_each, each_still, empty_shard, some_shards}
 use Rattle.warm_shards.proofs.WholeLemmas.{none_joined}
 
 abbrev pub Change : Type 1
@@ -114,33 +114,10 @@ pub each_shards : (later : ℕ) (change : Change) (old new : List NodeState)
     → StaysShard (shard_at old 0).history.horizon later change → AreShards old
     → OfEach change old new → AreShards new
 each_shards later change old new stays are have =
-    let number = (shard_at old 0).id in
-    let some = some_shards old are in
-    all_shards number later new (subst IsShardCount (sym have.count) are.count) (omega (arith, have.count)) (λ i lt.
-    subst (λ c. IsShard c number later i (shard_at new i)) (sym have.count) (stays (length old) number i (shard_at old i) (shard_at new i) (are.each i (omega (arith, have.count))) (have.each i (omega (arith, have.count)))))
-
-abbrev Either : Change → Change → Change → Change
-Either f g h = λ n m. f n m ⊎ (g n m ⊎ h n m)
+    each_still later old new have.count are (λ i lt was. stays (length old) (shard_at old 0).id i (shard_at old i) (shard_at new i) was (have.each i lt))
 
 above : (i k : ℕ) → k ≤ i → i ≢ k → k < i
 above i k le other = omega (arith, le, other)
-
-stops_each : (done fails left : Change) (old new : List NodeState) → StopsAtShard done fails left old new
-    → OfEach (Either done fails left) old new
-stops_each done fails left old new have = record {
-  count = have.count;
-  each = λ i lt. cases i lt (nat_eq i have.shard) refl (nat_lt i have.shard) refl;
-}
-  where
-    cases : (i : ℕ) → i < length old → (b : Bool) → nat_eq i have.shard ≡ b → (l : Bool)
-        → nat_lt i have.shard ≡ l → Either done fails left (shard_at old i) (shard_at new i)
-    cases i lt true is l less =
-        let same : i ≡ have.shard = eqb-true i have.shard is in
-        inr (inl (subst (λ x. fails (shard_at old x) (shard_at new x)) (sym same) have.at))
-    cases i lt false is true less = inl (have.before i (ltb-true i have.shard less))
-    cases i lt false is false less =
-        let over : have.shard ≤ i = ltb-false i have.shard less in
-        inr (inr (have.after i (above i have.shard over (eqb-false i have.shard is)) lt))
 
 pub stops_shards : (done fails left : Change) (old new : List NodeState)
     → StaysShard (shard_at old 0).history.horizon (shard_at old 0).history.horizon done
@@ -148,10 +125,19 @@ pub stops_shards : (done fails left : Change) (old new : List NodeState)
     → StaysShard (shard_at old 0).history.horizon (shard_at old 0).history.horizon left
     → AreShards old → StopsAtShard done fails left old new → AreShards new
 stops_shards done fails left old new one two three are have =
-    each_shards (shard_at old 0).history.horizon (Either done fails left) old new (λ count number i n m was by. elim by [
-      | inl x ↦ one count number i n m was x
-      | inr y ↦ elim y [ inl x ↦ two count number i n m was x | inr x ↦ three count number i n m was x ]
-    ]) are (stops_each done fails left old new have)
+    each_still (shard_at old 0).history.horizon old new have.count are (λ i lt was. cases i lt was (nat_eq i have.shard) refl (nat_lt i have.shard) refl)
+  where
+    cases : (i : ℕ) → i < length old → IsShard (length old) (shard_at old 0).id (shard_at old 0).history.horizon i (shard_at old i)
+        → (b : Bool) → nat_eq i have.shard ≡ b → (l : Bool) → nat_lt i have.shard ≡ l
+        → IsShard (length old) (shard_at old 0).id (shard_at old 0).history.horizon i (shard_at new i)
+    cases i lt was true is l less =
+        let same : i ≡ have.shard = eqb-true i have.shard is in
+        two (length old) (shard_at old 0).id i (shard_at old i) (shard_at new i) was (subst (λ x. fails (shard_at old x) (shard_at new x)) (sym same) have.at)
+    cases i lt was false is true less =
+        one (length old) (shard_at old 0).id i (shard_at old i) (shard_at new i) was (have.before i (ltb-true i have.shard less))
+    cases i lt was false is false less =
+        let over : have.shard ≤ i = ltb-false i have.shard less in
+        three (length old) (shard_at old 0).id i (shard_at old i) (shard_at new i) was (have.after i (above i have.shard over (eqb-false i have.shard is)) lt)
 
 pub unchanged_stays : (latest : ℕ) → StaysShard latest latest IsUnchanged
 unchanged_stays latest count number i n m was same = subst (IsShard count number latest i) (sym same) was
@@ -305,29 +291,16 @@ unfolding gone_stops
 fails_risen horizon fails old ns new k n m d lt at by have risen =
     stops_risen horizon fails old (set ns k m) new k (gone_stops ShardRestarts fails old ns k n m d lt at by have) refl risen
 
-empty_shard : (count number i horizon : ℕ) (v : PoolView) (m : NodeState) → m.id ≡ number
-    → m.history ≡ history_of_entries_at horizon [] → Emptied v (view_of m.pool)
-    → IsShard count number horizon i m
-empty_shard count number i horizon v m id none gone = record {
-  id = id;
-  horizon = ap (λ (h : HistoryView). h.horizon) none;
-  valid = subst IsHistory (sym none) (record { pages_ascend = tt; stamps_descend = tt; none_older = tt });
-  own = record {
-    known = subst (λ h. AllByRecursion (λ e. shard_of count e.page ≡ i) (entries_of h)) (sym none) tt;
-    resident = λ k p at. absurd (vacant v (view_of m.pool) gone k p at);
-  };
-}
-
 pub restarts_stays : (latest : ℕ) → StaysShard latest 0 ShardRestarts
 restarts_stays latest count number i n m was by =
-    empty_shard count number i 0 (view_of n.pool) m (ap (λ (v : NodeView). v.id) by.0.0 ∙ was.id) (ap (λ (v : NodeView). v.history) by.0.0) by.0.1
+    empty_shard count number i 0 m (ap (λ (v : NodeView). v.id) by.0.0 ∙ was.id) (ap (λ (v : NodeView). v.history) by.0.0) (vacant (view_of n.pool) (view_of m.pool) by.0.1)
 
 pub forgotten_stays : (latest horizon : ℕ) → horizon ≡ latest
     → StaysShard latest latest (HasForgotten horizon)
 forgotten_stays latest horizon same count number i n m was by =
-    subst (λ (h : ℕ). IsShard count number h i m) same (empty_shard count number i horizon (view_of n.pool) m (by.id ∙ was.id) by.history by.emptied)
+    subst (λ (h : ℕ). IsShard count number h i m) same (empty_shard count number i horizon m (by.id ∙ was.id) by.history (vacant (view_of n.pool) (view_of m.pool) by.emptied))
 
-none_held : (ns : List NodeState)
+pub none_held : (ns : List NodeState)
     → ((i : ℕ) → i < length ns → (shard_at ns i).history ≡ history_of_entries [])
     → held ns ≡ set_of_list []
 none_held [] all = refl

@@ -20,7 +20,7 @@ use Rattle.warm_shards.specs.Given.{AreGiven, Gives}
 use Rattle.warm_visits.specs.Given.{GivesOne, IsGiven, IsSame, at_horizon}
 use Rattle.warm_shards.specs.Shards.{AreShards, IsShard, no_shard, shard_at, whole}
 use Rattle.warm_visits.specs.ShardNumbers.{IsShardCount, of_first_shards, of_shard, shard_of}
-use Rattle.warm_shards.proofs.AreShardsLemmas.{all_shards, at_each, some_shards}
+use Rattle.warm_shards.proofs.AreShardsLemmas.{at_each, each_still, some_shards}
 use Rattle.warm_shards.proofs.Buckets.{shard_horizon}
 use Rattle.warm_shards.proofs.Calls.{bytes_after, keep_then, read_at, takes_shard}
 use Rattle.warm_visits.proofs.GivenLemmas.{bytes_same}
@@ -60,10 +60,8 @@ kept S old new have i = cases (nat_lt i (length old)) refl
 still : (S : ReferenceSet) (old new : List NodeState) → AreShards old → EachIsGiven S old new
     → AreShards new
 still S old new are have =
-    let number = (shard_at old 0).id in
-    let later = max (shard_at old 0).history.horizon S.horizon in
-    all_shards number later new (subst IsShardCount (sym have.count) are.count) (omega (arith, have.count, some_shards old are)) (λ i lt.
-    subst (λ c. IsShard c number later i (shard_at new i)) (sym have.count) (takes_shard (length old) number (shard_at old 0).history.horizon i (shard_at old i) (shard_at new i) (of_shard (length old) i S) (are.each i (omega (arith, lt, have.count))) (have.each i (omega (arith, lt, have.count))).0 (part_is_own (λ (r : Reference). r.page) (length old) i S.given)))
+    each_still (max (shard_at old 0).history.horizon S.horizon) old new have.count are (λ i lt was.
+    takes_shard (length old) (shard_at old 0).id (shard_at old 0).history.horizon i (shard_at old i) (shard_at new i) (of_shard (length old) i S) was (have.each i lt).0 (part_is_own (λ (r : Reference). r.page) (length old) i S.given))
 
 -- after each shard was given its part of S, all together have been given S
 pub given_all : (S : ReferenceSet) (old new : List NodeState) → AreShards old

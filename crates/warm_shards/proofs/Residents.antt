@@ -1,6 +1,7 @@
 -- The pages in a pool, looked up among those that its devices have.
-use Rattle.std.proofs.Common.{◌≡◌, ℕ, zero, suc, ◌<◌, List, [], ◌∷◌, ◌++◌, map, length, get_or, Some, None, refl, sym, ap, ◌∙◌, arith}
+use Rattle.std.proofs.Common.{◌≡◌, ℕ, ◌<◌, List, [], ◌∷◌, ◌++◌, map, length, get_or, Some, sym, ap, ◌∙◌, arith}
 use Rattle.std.proofs.Math.ListN.{get_or-map as mapped}
+use Rattle.std.proofs.lemmas.List.{length-map}
 use Rattle.std.specs.List.{AllByRecursion}
 use Rattle.warm_stamps.specs.declared.PageId.{PageId}
 use Rattle.warm_devices.specs.Device.{DeviceState}
@@ -8,6 +9,7 @@ use Rattle.warm_frame_table.specs.Frames.{nth_frame}
 use Rattle.warm_pool.specs.State.{IsPool, PoolState, no_device, nth_device}
 use Rattle.warm_pool.specs.View.{FrameView, PoolView, frame_at, frame_view, view_of}
 use Rattle.warm_gossip.proofs.BringsLemmas.{is_resident}
+use Rattle.warm_shards.proofs.Places.{read_at}
 use Rattle.warm_shards.specs.ShardsOfNodes.{AreOwnOf}
 use Rattle.warm_shards.specs.Shards.{HasPagesOf}
 
@@ -29,13 +31,9 @@ pub device_read : {B : Type 0} (shown : B → DeviceState) (ds : List B) (s : Po
     (d x : B) → map shown ds ≡ s.devices → k < length ds → x ≡ get_or ds k d
     → shown x ≡ nth_device s.devices k
 device_read shown ds s k d x is lt at =
-    ap shown at ∙ shown_at shown ds k d lt ∙ ap (λ xs. get_or xs k no_device) is
-  where
-    shown_at : {B : Type 0} (f : B → DeviceState) (xs : List B) (k : ℕ) (d : B) → k < length xs
-        → f (get_or xs k d) ≡ get_or (map f xs) k no_device
-    shown_at f [] k d lt = absurd (omega arith)
-    shown_at f (x ∷ xs) zero d lt = refl
-    shown_at f (x ∷ xs) (suc k) d lt = shown_at f xs k d (omega arith)
+    ap shown at
+    ∙ read_at (map shown ds) k (shown (get_or ds k d)) (shown d) no_device (omega (arith, lt, length-map ds shown)) (sym (mapped shown ds k d))
+    ∙ ap (λ xs. get_or xs k no_device) is
 
 -- what is true of each item is true of one between others
 pub one_between : {A : Type 0} (P : A → Type 0) (xs : List A) (x : A) (ys : List A)
