@@ -87,6 +87,10 @@ same_whole old new same = ap history (held_alike old new same.count (same_histor
 
 -- ---- one node is still the shard
 
+-- the pages of a history are of this shard
+abbrev pub Knows : ℕ → ℕ → HistoryView → Type 0
+Knows count i h = AllByRecursion (λ e. shard_of count e.page ≡ i) (entries_of h)
+
 -- it has taken references to its pages in: its pages are still its own
 pub takes_own : (count i : ℕ) (v w : NodeView) (S : ReferenceSet) → HoldsPagesOf count i v
     → w ≡ record v { history = history (references_of v.history ∪ S) }
