@@ -71,19 +71,19 @@ settled_shard count number latest i n m (Err why) same failed old =
     frames_shard count number latest i n m (alone_known n m _ failed.1.0) (ap (λ (x : PoolView). x.frames) failed.1.1.1.becomes) old
 
 -- the shard of a page is found among the shards as a caller sees them
-pub found_own : {ns xs : List NodeState} {i : ℕ} {p : PageId} → ns ≡ xs → i ≡ shard_of (length xs) p
+pub found_own : {ns xs : List NodeState} {i : ℕ} (p : PageId) → ns ≡ xs → i ≡ shard_of (length xs) p
     → shard_of (length ns) p ≡ i
-found_own {ns} {xs} {i} {p} same found = ap (λ (ys : List NodeState). shard_of (length ys) p) same ∙ sym found
+found_own {ns} {xs} {i} p same found = ap (λ (ys : List NodeState). shard_of (length ys) p) same ∙ sym found
 
 pub found_below : {ns xs : List NodeState} {i : ℕ} → ns ≡ xs → i < length xs → i < length ns
 found_below {ns} {xs} {i} same below = subst (λ (ys : List NodeState). i < length ys) (sym same) below
 
 -- one shard is still the shard that it was, so all are
-pub after_call : {ns : List NodeState} {i : ℕ} {n m d : NodeState} → AreShards ns → i < length ns
+pub after_call : {ns : List NodeState} {i : ℕ} {n m : NodeState} (d : NodeState) → AreShards ns → i < length ns
     → n ≡ get_or ns i d
     → ((number latest : ℕ) → IsShard (length ns) number latest i n → IsShard (length ns) number latest i m)
     → AreShards (set ns i m)
-after_call {ns} {i} {n} {m} {d} are lt at stays =
+after_call {ns} {i} {n} {m} d are lt at stays =
     let number = (shard_at ns 0).id in
     let latest = (shard_at ns 0).history.horizon in
     still_shards ns i m are lt (stays number latest (subst (IsShard (length ns) number latest i) (sym (read_at ns i n d lt at)) (are.each i lt)))
