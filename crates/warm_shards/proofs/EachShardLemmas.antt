@@ -1,14 +1,13 @@
 -- Calls that go to each shard, from the first on.
-use Rattle.std.proofs.Common.{◌≡◌, ◌≢◌, ◌⊎◌, inl, inr, ℕ, zero, suc, ◌+◌, ◌<◌, ◌≤◌, Bool, true, false, List, [], ◌∷◌, ◌++◌, length, map, max, set, get_or, take, drop, Option, Some, None, Result, Ok, Err, refl, sym, ap, subst, ◌∙◌, arith}
+use Rattle.std.proofs.Common.{◌≡◌, ◌≢◌, inl, inr, ℕ, zero, suc, ◌+◌, ◌<◌, ◌≤◌, Bool, true, false, List, [], ◌∷◌, ◌++◌, length, map, max, set, get_or, take, drop, Option, Some, None, Result, Ok, Err, refl, sym, ap, subst, ◌∙◌, arith}
 use Rattle.std.specs.Prelude.{nat_eq, nat_lt, IfErr, IsTrue, OnOk}
 use Rattle.std.proofs.Math.Dec.{leb-zero}
 use Rattle.std.proofs.Math.ListN.{get_or-map as mapped}
 use Rattle.std.proofs.lemmas.Bool.{eq-eqb, eqb-false, eqb-true, ltb-false, ltb-true}
 use Rattle.std.proofs.lemmas.List.{append-nil, drop_all, get_or-set_same, length-set, take_all}
-use Rattle.std.specs.List.{AllByRecursion}
 use Rattle.warm_stamps.specs.declared.PageId.{PageId}
 use Rattle.warm_history.specs.ReferenceSets.{set_of_list, with_horizon, ◌∪◌}
-use Rattle.warm_history.specs.Histories.{HistoryView, IsHistory, entries_of, history, history_of_entries, history_of_entries_at, references_of}
+use Rattle.warm_history.specs.Histories.{HistoryView, history, history_of_entries, history_of_entries_at, references_of}
 use Rattle.warm_frame_table.specs.Frames.{FrameState, nth_frame, dirty_count}
 use Rattle.warm_frame_table.specs.FrameSteps.{cleaned}
 use Rattle.warm_frame_table.specs.Selection.{is_from}
@@ -29,7 +28,6 @@ use Rattle.warm_gossip.specs.State.{NodeState, NodeView, node_view}
 use Rattle.warm_gossip.specs.Step.{IsFailed, OnPool, Step}
 use Rattle.warm_gossip.proofs.BringsLemmas.{vacant}
 use Rattle.warm_shards.specs.Shards.{AreShards, IsShard, held, no_shard, shard_at, whole}
-use Rattle.warm_visits.specs.ShardNumbers.{IsShardCount, shard_of}
 use Rattle.warm_shards.specs.EachShard.{DeviceFails, HasFixed, HasForgotten, IsClean, IsUnchanged, IsWritten, OfEach, OfFirst, RestartRefused, RestartStops, Rises, ShardFlushFails, ShardForgetsPages, ShardRestarts, ShardSettles, ShardWriteFails}
 use Rattle.warm_shards.specs.EachShard.{ShardsAreUnfixed, StopsAtShard, WriteBackStops}
 use Rattle.warm_shards.proofs.Buckets.{shard_horizon}

@@ -18,8 +18,8 @@ use Rattle.warm_gossip.specs.State.{NodeState, NodeView, empty_node, node_view}
 use Rattle.warm_shards.specs.Clauses.{HasPart, TakesInFirst}
 use Rattle.warm_shards.specs.Given.{AreGiven, Gives}
 use Rattle.warm_visits.specs.Given.{GivesOne, IsGiven, IsSame, at_horizon}
-use Rattle.warm_shards.specs.Shards.{AreShards, IsShard, no_shard, shard_at, whole}
-use Rattle.warm_visits.specs.ShardNumbers.{IsShardCount, of_first_shards, of_shard, shard_of}
+use Rattle.warm_shards.specs.Shards.{AreShards, no_shard, shard_at, whole}
+use Rattle.warm_visits.specs.ShardNumbers.{of_first_shards, of_shard, shard_of}
 use Rattle.warm_shards.proofs.AreShardsLemmas.{at_each, each_still, some_shards}
 use Rattle.warm_shards.proofs.Buckets.{shard_horizon}
 use Rattle.warm_shards.proofs.Calls.{bytes_after, keep_then, read_at, takes_shard}

@@ -1,14 +1,11 @@
 -- The laws of shards.
-use Rattle.std.proofs.Common.{◌≡◌, ◌≢◌, ◌⊎◌, inl, inr, length, Some, sym, ap, ◌∙◌}
-use Rattle.warm_stamps.specs.declared.PageId.{PageId}
+use Rattle.std.proofs.Common.{inl, inr, length, Some, sym, ap, ◌∙◌}
 use Rattle.warm_history.specs.ReferenceSets.{◌∪◌}
-use Rattle.warm_history.specs.Histories.{HistoryView, history, references_of}
+use Rattle.warm_history.specs.Histories.{history, references_of}
 use Rattle.warm_history.proofs.JoinLemmas.{history_first, history_of_own_references}
-use Rattle.warm_rank.specs.Ranking.{IsVictim}
 use Rattle.warm_rank.proofs.VictimLemmas.{victim_is_farthest}
-use Rattle.warm_pool.specs.View.{PoolView, frame_at, unfixed_pages, view_of}
+use Rattle.warm_pool.specs.View.{unfixed_pages, view_of}
 use Rattle.warm_gossip.specs.State.{empty_node, node_view}
-use Rattle.warm_gossip.specs.Victims.{IsEvicted}
 use Rattle.warm_gossip.proofs.VictimLemmas.{leaves_as_victim, step_leads}
 use Rattle.warm_shards.specs.Laws.{FirstAreGiven, ShardVictimsAreFarthest, ShardsStand, WholeIsOfGiven}
 use Rattle.warm_shards.specs.Shards.{as_node, shard_at, whole}

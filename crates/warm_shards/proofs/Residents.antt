@@ -3,11 +3,10 @@ use Rattle.std.proofs.Common.{◌≡◌, ℕ, ◌<◌, List, [], ◌∷◌, ◌+
 use Rattle.std.proofs.Math.ListN.{get_or-map as mapped}
 use Rattle.std.proofs.lemmas.List.{length-map}
 use Rattle.std.specs.List.{AllByRecursion}
-use Rattle.warm_stamps.specs.declared.PageId.{PageId}
 use Rattle.warm_devices.specs.Device.{DeviceState}
 use Rattle.warm_frame_table.specs.Frames.{nth_frame}
 use Rattle.warm_pool.specs.State.{IsPool, PoolState, no_device, nth_device}
-use Rattle.warm_pool.specs.View.{FrameView, PoolView, frame_at, frame_view, view_of}
+use Rattle.warm_pool.specs.View.{FrameView, PoolView, frame_view, view_of}
 use Rattle.warm_gossip.proofs.BringsLemmas.{is_resident}
 use Rattle.warm_shards.proofs.Places.{read_at}
 use Rattle.warm_shards.specs.ShardsOfNodes.{AreOwnOf}
