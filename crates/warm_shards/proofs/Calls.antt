@@ -23,7 +23,7 @@ use Rattle.warm_gossip.proofs.VictimLemmas.{no_frame}
 use Rattle.warm_shards.specs.Clauses.{KeepPools, SameShards}
 use Rattle.warm_shards.specs.Shards.{AreShards, HasPagesOf, HoldsPagesOf, IsShard, held, no_shard, shard_at, whole}
 use Rattle.warm_visits.specs.ShardNumbers.{shard_of}
-use Rattle.warm_shards.proofs.AreShardsLemmas.{at_each, each_still}
+use Rattle.warm_shards.proofs.AreShardsLemmas.{at_each, each_still, some_shards}
 use Rattle.warm_shards.proofs.Places.{read_at as at_place}
 use Rattle.warm_shards.proofs.Pages.{all_held, all_pages, all_taken, each_has}
 use Rattle.warm_visits.proofs.GivenLemmas.{bytes_same}
@@ -181,3 +181,8 @@ next_is_own count i n p old next =
 pub read_at : (ns : List NodeState) (i : ℕ) (n d : NodeState) → i < length ns → n ≡ get_or ns i d
     → n ≡ shard_at ns i
 read_at ns i n d lt is = at_place ns i n d no_shard lt is
+
+-- the id of the replica, as the code reads it of the first shard
+pub first_id : {ns : List NodeState} {n : NodeState} {x : ℕ} (d : NodeState) → AreShards ns
+    → n ≡ get_or ns 0 d → x ≡ n.id → x ≡ (shard_at ns 0).id
+first_id {ns} {n} {x} d are at is = is ∙ ap (λ (m : NodeState). m.id) (read_at ns 0 n d (some_shards ns are) at)

@@ -216,11 +216,11 @@ only_memory message old new (Err why) got = got.refused.0
 abbrev Offers : List NodeState → VisitState → List NodeState → Type 0
 Offers old w new = EndsAlone (λ w new. (offer : Message) × (offer_in w.id w.made ≡ Some offer) × Together old Offer (Sent offer) new) (set_of_list []) old w new
 
-pub offers_so : (old new : List NodeState) (v w : VisitState) → AreShards old
-    → v ≡ offer_visit (shard_at old 0).id (length old) → GoesAlone v old w new
+pub offers_so : (old new : List NodeState) (v w : VisitState) (id count : ℕ) → AreShards old
+    → v ≡ offer_visit id count → id ≡ (shard_at old 0).id → count ≡ length old → GoesAlone v old w new
     → next_shard w ≡ None → Offers old w new
-offers_so old new v w are is gone over =
-    reading_is_one_node.offers old new w are (subst (λ (x : VisitState). GoesAlone x old w new) is gone) over
+offers_so old new v w id count are is same long gone over =
+    reading_is_one_node.offers old new w are (subst (λ (x : VisitState). GoesAlone x old w new) (is ∙ (λ i. offer_visit (same i) (long i))) gone) over
 
 -- what a visit with no errand left has offered
 pub offers_all : (old new : List NodeState) (w : VisitState) (offer : Message) → Offers old w new
