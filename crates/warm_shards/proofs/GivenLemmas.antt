@@ -37,7 +37,7 @@ pub record EachIsGiven (S : ReferenceSet) (old new : List NodeState) : Type 0 wh
   pub each : (i : ℕ) → i < length old → IsGiven (of_shard (length old) i S) (shard_at old i) (shard_at new i)
 
 -- what is so of each shard, and of what is read beyond the last, is so at each number
-everywhere : (R : NodeState → NodeState → Type 0) → R no_shard no_shard → (old new : List NodeState)
+pub everywhere : (R : NodeState → NodeState → Type 0) → R no_shard no_shard → (old new : List NodeState)
     → length new ≡ length old → ((i : ℕ) → i < length old → R (shard_at old i) (shard_at new i))
     → (i : ℕ) → R (shard_at old i) (shard_at new i)
 everywhere R none [] [] long each i = none
