@@ -1,33 +1,22 @@
 -- A call leaves in the frames the pages that were there, and at most the page that it brings.
-use Rattle.std.proofs.Common.{◌≡◌, ◌⊎◌, ◌<◌, ℕ, zero, suc, List, [], ◌∷◌, inl, inr, map, length, set, get_or, Some, None, refl, sym, ap, subst, ◌∙◌, arith}
+use Rattle.std.proofs.Common.{◌≡◌, ◌⊎◌, ◌<◌, ℕ, zero, suc, List, [], ◌∷◌, inl, inr, map, length, set, get_or, Some, None, refl, sym, ap, subst, ◌∙◌}
 use Rattle.warm_stamps.specs.declared.PageId.{PageId}
 use Rattle.warm_frame_table.proofs.ListLemmas.{at_set}
 use Rattle.warm_pool.specs.Retiring.{Emptied, emptied}
 use Rattle.warm_pool.specs.View.{FrameView, IsResident, PoolView, frame_at}
 use Rattle.warm_gossip.specs.Brings.{Brings, BringsOnly, CallsBringOnly}
 use Rattle.warm_gossip.proofs.VictimLemmas.{KeepsPages, frame_is_there, no_frame, step_goes}
-
-there_is : (fs : List FrameView) (k : ℕ) (p : PageId) → (get_or fs k no_frame).page ≡ Some p
-    → k < length fs
-there_is [] k p at = let no : None ≡ Some p = at in absurd (cc)
-there_is (f ∷ fs) zero p at = omega arith
-there_is (f ∷ fs) (suc k) p at = let lt = there_is fs k p at in omega (arith, lt)
+use Rattle.warm_gossip.proofs.WarmUpLemmas.{resident_or_absent}
 
 -- a page in a frame is resident
 pub is_resident : (v : PoolView) (k : ℕ) (p : PageId) → (frame_at v k).page ≡ Some p
     → IsResident v p
-is_resident v k p at = record { frame = k; there = there_is v.frames k p at; holds = at }
+is_resident v k p at = elim (resident_or_absent v p) [ inl there ↦ there | inr none ↦ absurd (none k at) ]
 
--- every frame has the page that it had, or none
-abbrev pub LosesPages : PoolView → PoolView → Type 0
-LosesPages v w = (k : ℕ) (p : PageId) → (frame_at w k).page ≡ Some p → (frame_at v k).page ≡ Some p
-
-pub lost_brings : (brought : PageId → Type 0) (v w : PoolView) → LosesPages v w → BringsOnly brought v w
-lost_brings brought v w loses k p at = inl (is_resident v k p (loses k p at))
-
+-- every frame has the page that it had
 pub kept_brings : (brought : PageId → Type 0) (v w : PoolView) → KeepsPages v w
     → BringsOnly brought v w
-kept_brings brought v w keeps = lost_brings brought v w (λ k p at. sym (keeps k) ∙ at)
+kept_brings brought v w keeps k p at = inl (is_resident v k p (sym (keeps k) ∙ at))
 
 -- a page was put into a frame
 pub put_brings : (brought : PageId → Type 0) (v w : PoolView) (p : PageId) (i : ℕ) (f : FrameView)
