@@ -1,5 +1,6 @@
 -- A call leaves in the frames the pages that were there, and at most the page that it brings.
-use Rattle.std.proofs.Common.{◌≡◌, ◌⊎◌, ◌<◌, ℕ, zero, suc, List, [], ◌∷◌, inl, inr, map, length, set, get_or, Some, None, refl, sym, ap, subst, ◌∙◌}
+use Rattle.std.proofs.Common.{◌≡◌, ◌⊎◌, ◌<◌, ℕ, inl, inr, length, set, get_or, Some, None, refl, sym, ap, subst, ◌∙◌}
+use Rattle.std.proofs.Math.ListN.{get_or-map as mapped}
 use Rattle.warm_stamps.specs.declared.PageId.{PageId}
 use Rattle.warm_frame_table.proofs.ListLemmas.{at_set}
 use Rattle.warm_pool.specs.Retiring.{Emptied, emptied}
@@ -27,15 +28,10 @@ put_brings brought v w p i f there holds becomes is k q at =
     (λ here. let e : p ≡ q = cc in inr (subst brought e is)) (λ j other held. inl (is_resident v j q held)) k
     (ap (λ fs. let x : FrameView = get_or fs k no_frame in x.page) (sym becomes) ∙ at)
 
-all_emptied : (fs : List FrameView) (k : ℕ) → (get_or (map emptied fs) k no_frame).page ≡ None
-all_emptied [] k = refl
-all_emptied (f ∷ fs) zero = refl
-all_emptied (f ∷ fs) (suc k) = all_emptied fs k
-
 -- an emptied pool has no page
 pub vacant : (v w : PoolView) → Emptied v w → (k : ℕ) (p : PageId) → (frame_at w k).page ≡ Some p → ⊥
 vacant v w gone k p at =
-    let none : (frame_at w k).page ≡ None = ap (λ (x : PoolView). (frame_at x k).page) gone.becomes ∙ all_emptied v.frames k in
+    let none : (frame_at w k).page ≡ None = ap (λ (x : PoolView). (frame_at x k).page) gone.becomes ∙ ap (λ (f : FrameView). f.page) (mapped emptied v.frames k no_frame) in
     let no : None ≡ Some p = sym none ∙ at in cc
 
 pub calls_bring_only : CallsBringOnly

@@ -8,7 +8,7 @@ use Rattle.std.proofs.lemmas.List.{append-nil, drop_all, get_or-set_same, length
 use Rattle.warm_stamps.specs.declared.PageId.{PageId}
 use Rattle.warm_history.specs.ReferenceSets.{set_of_list, with_horizon, ◌∪◌}
 use Rattle.warm_history.specs.Histories.{HistoryView, history, history_of_entries, history_of_entries_at, references_of}
-use Rattle.warm_frame_table.specs.Frames.{FrameState, nth_frame, dirty_count}
+use Rattle.warm_frame_table.specs.Frames.{FrameState, fresh_frame, nth_frame, dirty_count}
 use Rattle.warm_frame_table.specs.FrameSteps.{cleaned}
 use Rattle.warm_frame_table.specs.Selection.{is_from}
 use Rattle.warm_frame_table.proofs.CountLemmas.{count_most}
@@ -161,9 +161,7 @@ flush_fails_stays latest count number i n m was by =
 -- ---- writing back
 
 all_cleaned : (frames : List FrameState) (i : ℕ) → (nth_frame (map cleaned frames) i).dirty ≡ false
-all_cleaned [] i = refl
-all_cleaned (f ∷ fs) zero = refl
-all_cleaned (f ∷ fs) (suc i) = all_cleaned fs i
+all_cleaned frames i = ap (λ (f : FrameState). f.dirty) (mapped cleaned frames i (fresh_frame []))
 
 clean_all : (frames : List FrameState) (n : ℕ) → length frames ≤ n
     → cleaned_to n frames ≡ map cleaned frames
