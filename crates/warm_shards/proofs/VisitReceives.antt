@@ -1,7 +1,6 @@
 -- Digests and requests that shards receive by a visit.
 use Rattle.std.proofs.Common.{◌≡◌, inl, ℕ, ◌<◌, ◌≤◌, Bool, true, false, List, [], length, Result, Ok, Err, refl, sym, ap, subst, ◌∙◌, arith}
-use Rattle.std.specs.Prelude.{IfErr, IfOk, None, Some, nat_lt}
-use Rattle.std.proofs.lemmas.Bool.{ltb-false, ltb-true}
+use Rattle.std.specs.Prelude.{IfErr, IfOk, None, Some}
 use Rattle.warm_history.specs.Entry.{Entry}
 use Rattle.warm_history.specs.ReferenceSets.{set_of_list, ◌∪◌}
 use Rattle.warm_history.specs.Histories.{StandsFor, history, references_of}

@@ -1,6 +1,5 @@
-use Rattle.std.proofs.Common.{◌≡◌, ◌<◌, ◌≤◌, length, true, ap, subst, ◌∙◌, arith}
+use Rattle.std.proofs.Common.{◌≡◌, ◌<◌, ◌≤◌, length, true, subst, ◌∙◌, arith}
 use Rattle.warm_frames.specs.Limits.{horizon_in}
-use Rattle.warm_gossip.specs.State.{NodeState}
 use Rattle.warm_shards.specs.Shards.{shard_at, whole}
 use Rattle.warm_visits.specs.Visits.{receive_visit}
 use Rattle.warm_shards.proofs.AnswerLemmas.{not_later}

@@ -6,7 +6,6 @@ use Rattle.warm_frames.specs.declared.message.Message.TheVariants.{Entries}
 use Rattle.warm_gossip.specs.declared.fault.NodeFault.{NodeFault}
 use Rattle.warm_peer.specs.Answers.{refs_in}
 use Rattle.warm_gossip.specs.declared.fault.NodeFault.TheVariants.{Memory}
-use Rattle.warm_gossip.specs.State.{NodeState}
 use Rattle.warm_shards.specs.Given.{AreGiven, ReceivesAll}
 use Rattle.warm_visits.specs.Given.{at_horizon}
 use Rattle.warm_shards.specs.Shards.{shard_at}
