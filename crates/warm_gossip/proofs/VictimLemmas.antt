@@ -155,10 +155,13 @@ step_goes (Send bucket after) (Sent message) old new step = same (Send bucket af
 step_goes Offer (Sent message) old new step = same Offer (Sent message) old new (λ S. refl) step.1
 step_goes (Receive message) (Answers messages) old new step = taken (refs_in message) (Receive message) (Answers messages) old new (λ S. refl) step.1
 step_goes (Horizon time) (Kept horizon) old new step = taken (record { horizon = time; given = [] }) (Horizon time) (Kept horizon) old new (λ S. refl) step.0
-step_goes (Pin p) (Pinned slot) old new step = (inl (ap (λ n. n.history) step.0, λ S. refl), elim step.1.1 [
-  | inl adds ↦ inl (fixes_change old.pool new.pool slot.index _ adds.there (ap (λ x. x.frames) adds.becomes))
-  | inr puts ↦ inr (inl (p, refl, 1, slot, puts))
-])
+step_goes (Pin p) (Pinned slot) old new step = (
+  inl (ap (λ n. n.history) step.0, λ S. refl),
+  elim step.1.1 [
+    | inl adds ↦ inl (fixes_change old.pool new.pool slot.index _ adds.there (ap (λ x. x.frames) adds.becomes))
+    | inr puts ↦ inr (inl (p, refl, 1, slot, puts))
+  ],
+)
 step_goes (Unpin slot) Done old new step =
     (inl (ap (λ n. n.history) step.1, λ S. refl), inl (fixes_change old.pool new.pool slot.index _ step.0.there (ap (λ n. n.pool.frames) step.1)))
 step_goes (Read slot at len) (Bytes bytes) old new step = same (Read slot at len) (Bytes bytes) old new (λ S. refl) step.3
@@ -183,17 +186,19 @@ pub step_leads : (S : ReferenceSet) (call : Call) (reply : Reply) (old new : Nod
     → old.history ≡ history S → Step old call reply new
     → Leads (given_by_call S call reply) call old new
 step_leads S call reply old new is step =
-    let goes = step_goes call reply old new step in
-    (elim goes.0 [
-      | inl stays ↦ stays.0 ∙ is ∙ ap history (sym (stays.1 S))
-      | inr moves ↦ elim moves [
-        | inl takes ↦ takes.1 ∙ ap (λ h. history (references_of h ∪ takes.0)) is ∙ history_first S takes.0 ∙ ap history (sym (takes.2 S))
-        | inr none ↦ none.0 ∙ none_given ∙ ap history (sym (none.1 S))
-      ]
-    ], λ other. elim goes.1 [
-      | inl keeps ↦ inl keeps
-      | inr moves ↦ elim moves [ inl puts ↦ inr (puts.0, puts.2, puts.3, puts.4) | inr gone ↦ absurd (other gone.0) ]
-    ])
+    let goes = step_goes call reply old new step in (
+      elim goes.0 [
+        | inl stays ↦ stays.0 ∙ is ∙ ap history (sym (stays.1 S))
+        | inr moves ↦ elim moves [
+          | inl takes ↦ takes.1 ∙ ap (λ h. history (references_of h ∪ takes.0)) is ∙ history_first S takes.0 ∙ ap history (sym (takes.2 S))
+          | inr none ↦ none.0 ∙ none_given ∙ ap history (sym (none.1 S))
+        ]
+      ],
+      λ other. elim goes.1 [
+        | inl keeps ↦ inl keeps
+        | inr moves ↦ elim moves [ inl puts ↦ inr (puts.0, puts.2, puts.3, puts.4) | inr gone ↦ absurd (other gone.0) ]
+      ],
+    )
 
 -- ---- the page that leaves
 
