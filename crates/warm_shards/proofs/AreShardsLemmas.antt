@@ -1,9 +1,13 @@
 -- A shard changes: all are still shards.
-use Rattle.std.proofs.Common.{◌≡◌, ◌≢◌, ℕ, ◌<◌, List, length, set, sym, subst, ◌∙◌, arith}
+use Rattle.std.proofs.Common.{◌≡◌, ◌≢◌, ℕ, ◌<◌, List, [], length, set, Some, sym, ap, subst, ◌∙◌, arith}
+use Rattle.std.specs.List.{AllByRecursion}
 use Rattle.std.proofs.lemmas.List.{length-set}
+use Rattle.warm_stamps.specs.declared.PageId.{PageId}
+use Rattle.warm_history.specs.Histories.{HistoryView, IsHistory, entries_of, history_of_entries_at}
+use Rattle.warm_pool.specs.View.{frame_at, view_of}
 use Rattle.warm_gossip.specs.State.{NodeState}
 use Rattle.warm_shards.specs.Shards.{AreShards, IsShard, no_shard, shard_at}
-use Rattle.warm_visits.specs.ShardNumbers.{IsShardCount}
+use Rattle.warm_visits.specs.ShardNumbers.{IsShardCount, shard_of}
 use Rattle.warm_shards.proofs.Places.{at_each as changed_at}
 use Rattle.warm_visits.proofs.ErrandLemmas.{some_count}
 
@@ -37,3 +41,28 @@ still_shards ns i m are lt new =
 
 pub some_shards : (ns : List NodeState) → AreShards ns → 0 < length ns
 some_shards ns are = some_count (length ns) are.count
+
+-- if each is still a shard, all of one horizon, they are the shards of the replica
+pub each_still : (later : ℕ) (old new : List NodeState) → length new ≡ length old → AreShards old
+    → ((i : ℕ) → i < length old
+    → IsShard (length old) (shard_at old 0).id (shard_at old 0).history.horizon i (shard_at old i)
+    → IsShard (length old) (shard_at old 0).id later i (shard_at new i)) → AreShards new
+each_still later old new long are stays =
+    all_shards (shard_at old 0).id later new (subst IsShardCount (sym long) are.count) (omega (arith, long, some_shards old are)) (λ i lt.
+    let less : i < length old = omega (arith, lt, long) in
+    subst (λ c. IsShard c (shard_at old 0).id later i (shard_at new i)) (sym long) (stays i less (are.each i less)))
+
+-- a node of this horizon that knows no page, and has none in its pool, is any shard
+pub empty_shard : (count number i horizon : ℕ) (m : NodeState) → m.id ≡ number
+    → m.history ≡ history_of_entries_at horizon []
+    → ((k : ℕ) (p : PageId) → (frame_at (view_of m.pool) k).page ≡ Some p → ⊥)
+    → IsShard count number horizon i m
+empty_shard count number i horizon m id none vacant = record {
+  id = id;
+  horizon = ap (λ (h : HistoryView). h.horizon) none;
+  valid = subst IsHistory (sym none) (record { pages_ascend = tt; stamps_descend = tt; none_older = tt });
+  own = record {
+    known = subst (λ h. AllByRecursion (λ e. shard_of count e.page ≡ i) (entries_of h)) (sym none) tt;
+    resident = λ k p at. absurd (vacant k p at);
+  };
+}

@@ -1,7 +1,6 @@
 -- Digests and requests that shards receive by a visit.
 use Rattle.std.proofs.Common.{◌≡◌, inl, ℕ, ◌<◌, ◌≤◌, Bool, true, false, List, [], length, Result, Ok, Err, refl, sym, ap, subst, ◌∙◌, arith}
-use Rattle.std.specs.Prelude.{IfErr, IfOk, None, Some, nat_lt}
-use Rattle.std.proofs.lemmas.Bool.{ltb-false, ltb-true}
+use Rattle.std.specs.Prelude.{IfErr, IfOk, None, Some}
 use Rattle.warm_history.specs.Entry.{Entry}
 use Rattle.warm_history.specs.ReferenceSets.{set_of_list, ◌∪◌}
 use Rattle.warm_history.specs.Histories.{StandsFor, history, references_of}
@@ -25,7 +24,7 @@ use Rattle.warm_shards.specs.VisitLaws.{EndsAlone, GoesAlone, ReceivesAlone}
 use Rattle.warm_visits.specs.Visits.{HasEntries, VisitState, answers_of, next_shard, offer_in, offer_visit, receive_visit, result_of}
 use Rattle.warm_shards.proofs.AreShardsLemmas.{some_shards}
 use Rattle.warm_shards.proofs.Calls.{same_keeps, same_none}
-use Rattle.warm_shards.proofs.GivenLemmas.{beyond}
+use Rattle.warm_shards.proofs.GivenLemmas.{everywhere}
 use Rattle.warm_shards.proofs.StandsForLemmas.{shard_stands}
 use Rattle.warm_shards.proofs.VisitLawsHold.{giving_is_one_node}
 use Rattle.warm_shards.proofs.VisitReadsLaws.{reading_is_one_node}
@@ -163,14 +162,12 @@ pub same_of_whole : (old new : List NodeState) → AreShards old → AreShards n
     → SameShards old new
 same_of_whole old new are now id is keep = record {
   count = keep.count;
-  views = λ i. cases i (nat_lt i (length old)) refl;
+  views = everywhere (λ n m. node_view m ≡ node_view n) refl old new keep.count each;
   bytes = keep.bytes;
 }
   where
-    cases : (i : ℕ) (b : Bool) → nat_lt i (length old) ≡ b
-        → node_view (shard_at new i) ≡ node_view (shard_at old i)
-    cases i true less =
-        let lt : i < length old = ltb-true i (length old) less in
+    each : (i : ℕ) → i < length old → node_view (shard_at new i) ≡ node_view (shard_at old i)
+    each i lt =
         let lt2 : i < length new = omega (arith, lt, keep.count) in
         let ids : (shard_at new i).id ≡ (shard_at old i).id = (now.each i lt2).id ∙ id ∙ sym (are.each i lt).id in
         let was = shard_stands (references_of (whole old)) old i are lt (own_whole old) in
@@ -178,9 +175,6 @@ same_of_whole old new are now id is keep = record {
         let histories : (shard_at new i).history ≡ (shard_at old i).history = has ∙ ap (λ n. history (of_shard n i (references_of (whole old)))) keep.count ∙ sym was in
         let pools = keep.views i in
         λ j. record { id = ids j; history = histories j; pool = pools j }
-    cases i false over =
-        let past : length old ≤ i = ltb-false i (length old) over in
-        ap node_view (beyond new i (omega (arith, past, keep.count)) ∙ sym (beyond old i past))
 
 -- a horizon that is not later changes nothing
 pub same_not_later : (message : Message) (old new : List NodeState)
@@ -216,11 +210,11 @@ only_memory message old new (Err why) got = got.refused.0
 abbrev Offers : List NodeState → VisitState → List NodeState → Type 0
 Offers old w new = EndsAlone (λ w new. (offer : Message) × (offer_in w.id w.made ≡ Some offer) × Together old Offer (Sent offer) new) (set_of_list []) old w new
 
-pub offers_so : (old new : List NodeState) (v w : VisitState) → AreShards old
-    → v ≡ offer_visit (shard_at old 0).id (length old) → GoesAlone v old w new
+pub offers_so : (old new : List NodeState) (v w : VisitState) (id count : ℕ) → AreShards old
+    → v ≡ offer_visit id count → id ≡ (shard_at old 0).id → count ≡ length old → GoesAlone v old w new
     → next_shard w ≡ None → Offers old w new
-offers_so old new v w are is gone over =
-    reading_is_one_node.offers old new w are (subst (λ (x : VisitState). GoesAlone x old w new) is gone) over
+offers_so old new v w id count are is same long gone over =
+    reading_is_one_node.offers old new w are (subst (λ (x : VisitState). GoesAlone x old w new) (is ∙ (λ i. offer_visit (same i) (long i))) gone) over
 
 -- what a visit with no errand left has offered
 pub offers_all : (old new : List NodeState) (w : VisitState) (offer : Message) → Offers old w new

@@ -293,11 +293,11 @@ latest_is old new time are rose =
     let is : (whole new).horizon ≡ max (whole old).horizon time = ap (λ (h : HistoryView). h.horizon) (whole_given (at_horizon time) old new rose) ∙ horizon-history (references_of (whole old) ∪ at_horizon time) in
     ap (λ h. max h time) was ∙ sym is
 
-pub alone_raises : (old new : List NodeState) (w : VisitState) (id count time : ℕ) → AreShards old
-    → count ≡ length old → GoesAlone (raise_visit id count time) old w new → next_shard w ≡ None
+pub alone_raises : (old new : List NodeState) (v w : VisitState) (id count time : ℕ) → AreShards old
+    → v ≡ raise_visit id count time → count ≡ length old → GoesAlone v old w new → next_shard w ≡ None
     → Rose old time w new
-alone_raises old new w id count time are is gone over =
-    let all = subst (λ n. GoesAlone (raise_visit id n time) old w new) is gone in
+alone_raises old new v w id count time are visit is gone over =
+    let all = subst (λ (x : VisitState). GoesAlone x old w new) (visit ∙ ap (λ n. raise_visit id n time) is) gone in
     let begins : alone (raise_visit id (length old) time) old ≡ alone (begun id (length old) (raise_plan (length old) time ++ []) (raised None) ends) old = ap (λ es. alone (begun id (length old) es (raised None) ends) old) (sym (append-nil (raise_plan (length old) time))) in
     let risen = raises_first id old time [] (risen_made (latest old time)) ends (alone w new) all.0 are (risen_keeps (latest old time)) (subst (λ s. Runs EntersAlone s all.0 (alone w new)) begins all.1) over in
     let same = over_empty risen.mid (alone w new) risen.entries (ap (λ (v : VisitState). v.plan) risen.visit) risen.runs in
