@@ -18,9 +18,10 @@ use Rattle.warm_gossip.proofs.GivenLemmas.{told_is_history}
 use Rattle.warm_frames.specs.declared.message.Message.TheVariants.{Entries}
 use Rattle.warm_shard_machine.specs.declared.calls.ShardCall.{ShardCall}
 use Rattle.warm_shard_machine.specs.declared.calls.ShardReply.{ShardReply}
-use Rattle.warm_shard_machine.specs.declared.calls.ShardReply.TheVariants.{Answers, Changed, Copied, Dirty, Done, Foreign, Looked, Page, Pinned, Portion, Refused, Replaced, WasDirty}
+use Rattle.warm_shard_machine.specs.declared.calls.ShardReply.TheVariants.{Answers, Changed, Copied, Dirty, Done, Entered, Foreign, Looked, Page, Pinned, Portion, Refused, Replaced, WasDirty}
 use Rattle.warm_shard_machine.specs.Laws.{CallsAreANodes, ShardIsOfGiven, asked_steps, given_by_reply, given_by_step, given_by_steps, node_steps}
-use Rattle.warm_shard_machine.specs.ShardSteps.{Asked, doing, looking, changing, CallGoes, NodeGoes, NodeStep, ShardState, ShardStep, Work, calling, writing_pages, writing_some, writing_page, writing_back, flushing, zeroing, filling, naming_next, forgetting, taking_in, answering, sending_since, copying, retiring, asked_of, node_reply_of}
+use Rattle.warm_shard_machine.specs.ShardSteps.{Asked, doing, looking, changing, CallGoes, NodeGoes, NodeStep, ShardState, ShardStep, Work, calling, writing_pages, writing_some, writing_page, writing_back, flushing, zeroing, filling, naming_next, forgetting, taking_in, answering, sending_since, copying, retiring, entering, asked_of, node_reply_of}
+use Rattle.warm_shard_machine.proofs.EnteringLemmas.{entered_given}
 
 -- ---- the steps of a shard are a node's
 
@@ -92,16 +93,18 @@ failed_history : (o y : NodeState) (why : NodeFault) → NodeWriteBackFails o wh
     → y.history ≡ o.history
 failed_history o y why fails = ap (λ (n : NodeView). n.history) fails.1.0
 
--- so it is beside the calls, and the entries that are taken in
+-- so it is beside the calls, the entries that are taken in, and the errands of visits
 abbrev IsBeside : Work → Type 0
 IsBeside (calling c) = ⊥
 IsBeside (taking_in horizon es) = ⊥
+IsBeside (entering count number v) = ⊥
 IsBeside w = Unit {0}
 
 beside : (o y : NodeState) (w : Work) (r : ShardReply) → IsBeside w → NodeStep o w r y
     → y.history ≡ o.history
 beside o y (calling c) r not step = absurd not
 beside o y (taking_in horizon es) r not step = absurd not
+beside o y (entering count number v) r not step = absurd not
 beside o y writing_pages Done is step = same_history o y step.0
 beside o y writing_pages (Refused why) is step = failed_history o y why step.0
 beside o y writing_pages r is step = absurd step
@@ -152,6 +155,9 @@ one_given S o y (calling c) r stands step = call_given S o y c (node_reply_of r)
 one_given S o y (taking_in horizon es) Done stands step = taken_given S o y horizon es stands step.0
 one_given S o y (taking_in horizon es) (Refused why) stands step = same_history o y step.1 ∙ stands
 one_given S o y (taking_in horizon es) r stands step = absurd step
+one_given S o y (entering count number v) (Entered w) stands step = entered_given S o y stands v w step.1
+one_given S o y (entering count number v) (Refused why) stands step = ap (λ (n : NodeState). n.history) step.1 ∙ stands
+one_given S o y (entering count number v) r stands step = absurd step
 one_given S o y w r stands step = beside o y w r tt step ∙ stands
 
 -- and so after many

@@ -26,10 +26,12 @@ use Rattle.warm_shards.specs.Shards.{HasPagesOf, HoldsPagesOf, HoldsShard, shard
 use Rattle.warm_shards.proofs.EngineCalls.{flushed_own, forgotten_own, page_own, retired_own, same_own, zeroed_own}
 use Rattle.warm_shards.proofs.HoldsPagesLemmas.{failures_stay, steps_stay}
 use Rattle.warm_shard_machine.specs.declared.calls.ShardCall.{ShardCall}
-use Rattle.warm_shard_machine.specs.declared.calls.ShardCall.TheVariants.{Absorb, Change, Look, Pin, PinFilled, PinZeroed, TakeIn}
+use Rattle.warm_shard_machine.specs.declared.calls.ShardCall.TheVariants.{Absorb, Change, Enter, Look, Pin, PinFilled, PinZeroed, TakeIn}
 use Rattle.warm_shard_machine.specs.declared.calls.ShardReply.{ShardReply}
-use Rattle.warm_shard_machine.specs.declared.calls.ShardReply.TheVariants.{Answers, Changed, Copied, Dirty, Done, Foreign, Looked, Page, Pinned, Portion, Refused, Replaced, WasDirty}
-use Rattle.warm_shard_machine.specs.ShardSteps.{Asked, doing, looking, changing, CallGoes, CallStep, IsOwn, NodeGoes, NodeStep, ShardState, ShardStep, Work, calling, writing_pages, writing_some, writing_page, writing_back, flushing, zeroing, filling, naming_next, forgetting, taking_in, answering, sending_since, copying, retiring, asked_of, node_reply_of}
+use Rattle.warm_shard_machine.specs.declared.calls.ShardReply.TheVariants.{Answers, Changed, Copied, Dirty, Done, Entered, Foreign, Looked, Page, Pinned, Portion, Refused, Replaced, WasDirty}
+use Rattle.warm_shard_machine.specs.ShardSteps.{Asked, doing, looking, changing, CallGoes, CallStep, IsOwn, NodeGoes, NodeStep, ShardState, ShardStep, Work, calling, writing_pages, writing_some, writing_page, writing_back, flushing, zeroing, filling, naming_next, forgetting, taking_in, answering, sending_since, copying, retiring, entering, asked_of, node_reply_of}
+use Rattle.warm_shard_machine.specs.Entering.{IsNextAt}
+use Rattle.warm_shard_machine.proofs.EnteringLemmas.{entered_own}
 use Rattle.warm_shard_machine.proofs.ShardStepLemmas.{runs_keep, unforgotten}
 
 -- ---- a node after one step
@@ -69,6 +71,7 @@ module _ (count i : ℕ) where
   BringsWork (zeroing p) = IsHere p
   BringsWork (filling p bytes) = IsHere p
   BringsWork (taking_in horizon es) = BringsOwn count i (node_call.Receive (Entries 0 horizon es))
+  BringsWork (entering all next v) = (all ≡ count) × (next ≡ i)
   BringsWork w = Unit {0}
 
   step_own : (n m : NodeState) (w : Work) (r : ShardReply) → BringsWork w → HoldsShard count i n
@@ -139,6 +142,11 @@ module _ (count i : ℕ) where
       pool_own n m own step.2 (retired_own {T = Unit} {E = PoolFault} IsHere n m dev step.0 (λ f. f) (Err fault) own.resident step.2 tt step.3.cause).own
   step_own n m (retiring dev told) (Refused Memory) brings own step = subst (HoldsShard count i) (sym step) own
   step_own n m (retiring dev told) r brings own step = absurd step
+  step_own n m (entering all next v) (Entered w) brings own step =
+      let at : IsNextAt count i v = subst (λ j. IsNextAt count j v) brings.1 (subst (λ k. IsNextAt k next v) brings.0 step.0) in
+      entered_own count i n m own v w at step.1
+  step_own n m (entering all next v) (Refused why) brings own step = subst (HoldsShard count i) (sym step.1) own
+  step_own n m (entering all next v) r brings own step = absurd step
 
   -- so does all that a shard asks of its node for a call of own pages
   abbrev BringsAsked : Asked → Type 0
@@ -154,6 +162,7 @@ module _ (count i : ℕ) where
   own_asked (PinFilled p bytes) own = own
   own_asked (Look p) own = own
   own_asked (Change p) own = own
+  own_asked (Enter all next v) own = own
   own_asked c own = tt
 
   goes_own : (n m : NodeState) (a : Asked) (r : ShardReply) → BringsAsked a → HoldsShard count i n

@@ -19,12 +19,13 @@ use Rattle.warm_gossip.specs.Clauses.{NodeWriteBackFails, OfPool, SameView}
 use Rattle.warm_gossip.specs.State.{NodeState, NodeView, node_view}
 use Rattle.warm_machine.specs.Runs.{Runs}
 use Rattle.warm_shard_machine.specs.declared.calls.ShardCall.{ShardCall}
-use Rattle.warm_shard_machine.specs.declared.calls.ShardCall.TheVariants.{Absorb, Answer, Change, CopyHistory, FlushDevice, ForgetPages, Look, Offer, Pin, PinFilled, PinZeroed, Raise, Read, Retire, Send, SendSince, TakeIn, Unpin, Victim, WarmList, WarmNext, WarmStep, Write, WriteBack, WritePage, WritePages, WriteSome}
+use Rattle.warm_shard_machine.specs.declared.calls.ShardCall.TheVariants.{Absorb, Answer, Change, CopyHistory, Enter, FlushDevice, ForgetPages, Look, Offer, Pin, PinFilled, PinZeroed, Raise, Read, Retire, Send, SendSince, TakeIn, Unpin, Victim, WarmList, WarmNext, WarmStep, Write, WriteBack, WritePage, WritePages, WriteSome}
 use Rattle.warm_shard_machine.specs.declared.calls.ShardReply.{ShardReply}
-use Rattle.warm_shard_machine.specs.declared.calls.ShardReply.TheVariants.{Answers, Changed, Copied, Dirty, Done, Foreign, Loaded, Looked, Page, Pinned, Portion, Refused, Replaced, WasDirty}
+use Rattle.warm_shard_machine.specs.declared.calls.ShardReply.TheVariants.{Answers, Changed, Copied, Dirty, Done, Entered, Foreign, Loaded, Looked, Page, Pinned, Portion, Refused, Replaced, WasDirty}
 use Rattle.warm_shard_machine.specs.Laws.{Log}
 use Rattle.warm_shard_machine.specs.Pins.{LeadsTo, PinsAreGiven, pin_by, pool_pins, unpin_by}
 use Rattle.warm_shard_machine.specs.ShardSteps.{CallGoes, NodeGoes, ShardState, ShardStep, asked_of, node_reply_of}
+use Rattle.warm_shard_machine.proofs.EnteringLemmas.{entered_pool}
 use Rattle.warm_shard_machine.proofs.ShardStepLemmas.{goes_as, unforgotten}
 use Rattle.warm_shard_machine.proofs.PoolPinLemmas.{IsCalm, IsFree, Moves, calm_same, forgotten_moves, pin_moves, pool_free, refused_same, retire_refused, retired_moves, same_moves, then_same, unpin_moves, warm_moves, zeroed_moves}
 
@@ -151,6 +152,10 @@ goes_moves n m (Retire dev told) (Refused (Pool fault)) free step =
     stays n m free (retire_refused (view_of n.pool) (view_of m.pool) dev step.0 fault step.3.cause)
 goes_moves n m (Retire dev told) (Refused Memory) free step = stays n m free (unmoved n m step)
 goes_moves n m (Retire dev told) r free step = absurd step
+goes_moves n m (Enter count number v) (Entered w) free step =
+    stays n m free (ap (λ (x : PoolView). x.frames) (entered_pool n m v w step.1))
+goes_moves n m (Enter count number v) (Refused why) free step = stays n m free (unmoved n m step.1)
+goes_moves n m (Enter count number v) r free step = absurd step
 -- a look pins and unpins
 goes_moves n m (Look p) (Looked slot bytes) free step =
     let pinned = pin_moves (node_view n) (node_view step.mid) p slot step.pins.0 free in

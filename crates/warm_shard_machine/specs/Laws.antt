@@ -11,8 +11,10 @@ use Rattle.warm_gossip.specs.Given.{given_by_call}
 use Rattle.warm_shard_machine.specs.declared.calls.ShardCall.{ShardCall}
 use Rattle.warm_shard_machine.specs.declared.calls.ShardReply.{ShardReply}
 use Rattle.warm_shard_machine.specs.declared.calls.ShardReply.TheVariants.{Changed, Done, Foreign}
-use Rattle.warm_shard_machine.specs.declared.calls.ShardReply.TheVariants.{Looked, Pinned}
+use Rattle.warm_shard_machine.specs.declared.calls.ShardReply.TheVariants.{Entered, Looked, Pinned}
+use Rattle.warm_shard_machine.specs.Entering.{gave_entry}
 use Rattle.warm_shard_machine.specs.ShardSteps.{Asked, NodeStep, Work, calling, changing, doing}
+use Rattle.warm_shard_machine.specs.ShardSteps.{entering}
 use Rattle.warm_shard_machine.specs.ShardSteps.{looking, taking_in, ShardState, ShardStep, asked_of}
 use Rattle.warm_shard_machine.specs.ShardSteps.{node_reply_of}
 
@@ -54,11 +56,12 @@ given_by_reply S call None = S
 given_by_reply S call (Some reply) = given_by_call S call reply
 
 -- the references that a node was given, from these on, after one step with this reply: a call of
--- the node, or entries that it took in; another step adds none
+-- the node, entries that it took in, or an errand of a visit; another step adds none
 abbrev pub given_by_step : ReferenceSet → Work → ShardReply → ReferenceSet
 given_by_step S (calling call) reply = given_by_reply S call (node_reply_of reply)
 given_by_step S (taking_in horizon entries) Done =
     S ∪ references_of (history_of_entries_at horizon entries)
+given_by_step S (entering count number v) (Entered w) = S ∪ gave_entry v w
 given_by_step S work reply = S
 
 -- the references that a node was given by these steps, from these references on

@@ -36,6 +36,7 @@ use Rattle.warm_gossip.specs.Engine.{KeepsKnown}
 use Rattle.warm_gossip.specs.State.{NodeState, node_view}
 use Rattle.warm_gossip.specs.Step.{IsNextWarm}
 use Rattle.warm_shards.specs.Shards.{no_shard, shard_of}
+use Rattle.warm_shards.specs.Visits.{HasEntered, VisitState}
 use Rattle.warm_shard_machine.specs.declared.calls.ShardCall.{ShardCall}
 use Rattle.warm_shard_machine.specs.declared.calls.ShardCall.TheVariants.{Absorb, Raise, Pin, Unpin}
 use Rattle.warm_shard_machine.specs.declared.calls.ShardCall.TheVariants.{Read, Write, Victim}
@@ -47,7 +48,8 @@ use Rattle.warm_shard_machine.specs.declared.calls.ShardCall.TheVariants.{PinZer
 use Rattle.warm_shard_machine.specs.declared.calls.ShardCall.TheVariants.{TakeIn, CopyHistory}
 use Rattle.warm_shard_machine.specs.declared.calls.ShardCall.TheVariants.{Retire, FlushDevice}
 use Rattle.warm_shard_machine.specs.declared.calls.ShardCall.TheVariants.{PinFilled, WarmNext}
-use Rattle.warm_shard_machine.specs.declared.calls.ShardCall.TheVariants.{WritePage}
+use Rattle.warm_shard_machine.specs.declared.calls.ShardCall.TheVariants.{Enter, WritePage}
+use Rattle.warm_shard_machine.specs.Entering.{IsNextAt}
 use Rattle.warm_shard_machine.specs.ToldDevices.{IsTold}
 use Rattle.warm_shard_machine.specs.declared.calls.ShardReply.{ShardReply}
 use Rattle.warm_shard_machine.specs.declared.calls.ShardReply.TheVariants.{Done, Kept, Pinned, Bytes}
@@ -55,7 +57,7 @@ use Rattle.warm_shard_machine.specs.declared.calls.ShardReply.TheVariants.{Page,
 use Rattle.warm_shard_machine.specs.declared.calls.ShardReply.TheVariants.{Answers, Foreign, Pages}
 use Rattle.warm_shard_machine.specs.declared.calls.ShardReply.TheVariants.{Portion, Dirty, Refused}
 use Rattle.warm_shard_machine.specs.declared.calls.ShardReply.TheVariants.{Looked, Changed, Copied}
-use Rattle.warm_shard_machine.specs.declared.calls.ShardReply.TheVariants.{Replaced, WasDirty}
+use Rattle.warm_shard_machine.specs.declared.calls.ShardReply.TheVariants.{Entered, Replaced, WasDirty}
 
 -- a shard: how many there are, its number, and its node
 pub record ShardState : Type 0 where
@@ -77,8 +79,8 @@ no_state = shard_over 0 0 no_shard
 -- write back those of a device, and flush it; a pin of a page that gets zeros, or that gets these
 -- bytes; to name the page that a warm-up step would load; to forget the pages of a device from a
 -- number on; to take entries in, at the later horizon; to send the entries of these buckets, or what
--- is new in a bucket since a time, after a page; to copy its history; or to replace a device with
--- another.
+-- is new in a bucket since a time, after a page; to copy its history; to replace a device with
+-- another; or what a visit of so many shards asks of that of this number.
 pub data Work : Type 0 where
   calling : Call → Work
   writing_pages : Work
@@ -95,6 +97,7 @@ pub data Work : Type 0 where
   sending_since : ℕ → ℕ → Option PageId → Work
   copying : Work
   retiring : ℕ → Tag → Work
+  entering : ℕ → ℕ → VisitState → Work
 
 -- what a shard asks of its node: one step; or several calls in one turn, of a page that is looked
 -- at, or changed
@@ -136,6 +139,7 @@ asked_of (ForgetPages dev from) = doing (forgetting dev from)
 asked_of (Retire dev device) = doing (retiring dev device)
 asked_of (Look page) = looking page
 asked_of (Change page) = changing page
+asked_of (Enter count number v) = doing (entering count number v)
 
 -- the reply of a node that this is, if it is one
 abbrev pub node_reply_of : ShardReply → Option Reply
@@ -156,6 +160,7 @@ node_reply_of (Copied history) = None
 node_reply_of (Replaced was) = None
 node_reply_of (Looked slot bytes) = None
 node_reply_of (Changed slot before after) = None
+node_reply_of (Entered w) = None
 node_reply_of Foreign = None
 
 -- the number of the shard that has the pages of a bucket, of this many shards
@@ -167,7 +172,8 @@ abbrev pub AreOwnBuckets : ℕ → ℕ → ℕ → Type 0
 AreOwnBuckets count number buckets = (bucket : ℕ) → bucket < BUCKETS → bit_at buckets bucket ≡ 1
     → shard_of_bucket count bucket ≡ number
 
--- every page and every bucket that the call brings is of the shard of this number
+-- every page and every bucket that the call brings is of the shard of this number, and a visit that
+-- it brings goes next to this shard
 abbrev pub IsOwn : ℕ → ℕ → ShardCall → Type 0
 IsOwn count number (Absorb batch) = All (λ r. shard_of count r.page ≡ number) batch
 IsOwn count number (TakeIn horizon entries) = All (λ e. shard_of count e.page ≡ number) entries
@@ -178,6 +184,7 @@ IsOwn count number (WritePage page) = shard_of count page ≡ number
 IsOwn count number (Answer request) = AreOwnBuckets count number request
 IsOwn count number (Look page) = shard_of count page ≡ number
 IsOwn count number (Change page) = shard_of count page ≡ number
+IsOwn count number (Enter all next v) = (all ≡ count) × (next ≡ number)
 IsOwn count number call = Unit {0}
 
 -- Steps of a node
@@ -314,6 +321,13 @@ RetireStep old dev told (Refused (Pool fault)) new = (device : DeviceState) × I
 RetireStep old dev told (Refused Memory) new = new ≡ old
 RetireStep old dev told reply new = ⊥
 
+-- A visit that goes next to this shard, of so many, ran its errand; it is stopped if the node had no
+-- memory. A call that brought no visit is refused as if no memory were left.
+abbrev pub EnterStep : NodeState → ℕ → ℕ → VisitState → ShardReply → NodeState → Type 0
+EnterStep old count number v (Entered w) new = IsNextAt count number v × HasEntered v old w new
+EnterStep old count number v (Refused why) new = (why ≡ Memory) × (new ≡ old)
+EnterStep old count number v reply new = ⊥
+
 -- one step of a node, with the reply of the shard
 abbrev pub NodeStep : NodeState → Work → ShardReply → NodeState → Type 0
 NodeStep old (calling call) reply new = CallGoes old call (node_reply_of reply) new
@@ -332,6 +346,7 @@ NodeStep old (sending_since bucket since after) reply new =
     SendSinceStep old bucket since after reply new
 NodeStep old copying reply new = CopyStep old reply new
 NodeStep old (retiring dev told) reply new = RetireStep old dev told reply new
+NodeStep old (entering count number v) reply new = EnterStep old count number v reply new
 
 -- Steps of a shard
 

@@ -2,6 +2,7 @@
 //! box.
 
 use crate::boxed_history::BoxedHistory;
+use crate::told_visit::ToldVisit;
 use boxcar::tag::Tag;
 use warm_frames::{BoxedMessage, MessageList};
 use warm_gossip::NodeFault;
@@ -116,6 +117,16 @@ pub enum ShardCall {
     Look(PageId),
     /// Let the bytes of a page of the shard be changed, and load it if it isn't resident.
     Change(PageId),
+    /// Let a visit of all shards run its next errand. A value of this call brings no visit, and is
+    /// refused: the visitor [`crate::Entering`] brings one.
+    Enter {
+        /// How many shards the visit goes to.
+        count: usize,
+        /// The number of the shard of its next errand.
+        number: usize,
+        /// The visit before, which exists here only in contracts.
+        visit: ToldVisit,
+    },
 }
 
 /// A reply of a shard.
@@ -179,4 +190,7 @@ pub enum ShardReply {
         /// The bytes afterwards, which exist here only in contracts.
         after: Tag,
     },
+    /// The visit has run its errand, or the node had no memory for it. It is the visit afterwards,
+    /// which exists here only in contracts.
+    Entered(ToldVisit),
 }

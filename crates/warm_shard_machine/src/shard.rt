@@ -73,13 +73,24 @@ pub(crate) fn is_own_page(count: usize, number: usize, page: PageId) -> bool
     shard_of(count, page) == number
 }
 
-/// Where a page is: the number of its shard, and of how many. A caller has reckoned it.
+/// Where a page is, or the next errand of a visit: the number of its shard, and of how many. A
+/// caller has reckoned it.
 #[derive(Clone, Copy)]
 pub struct Place {
     /// How many shards there are.
     pub count: usize,
-    /// The number of the page's shard.
+    /// The number of the shard.
     pub number: usize,
+}
+
+// Whether the shard of this number, of so many, is at that place.
+pub(crate) fn is_place(place: Place, count: usize, number: usize) -> bool
+    ensures { IsTrue result ↔ ((place.count ≡ count) × (place.number ≡ number)) }
+{
+    if place.count != count {
+        return false;
+    }
+    place.number == number
 }
 
 // Whether a page is of the shard of this number. Mostly its place says so, and its shard is not
@@ -140,6 +151,17 @@ fn is_own(count: usize, number: usize, call: &ShardCall) -> bool
         | ShardCall::Look(page)
         | ShardCall::Change(page) => is_own_page(count, number, *page),
         ShardCall::Answer(request) => are_own_buckets(count, number, *request),
+        ShardCall::Enter {
+            count: of,
+            number: at,
+            ..
+        } => {
+            let place = Place {
+                count: *of,
+                number: *at,
+            };
+            is_place(place, count, number)
+        }
         _ => true,
     }
 }
@@ -320,6 +342,7 @@ fn answer<D: PageDevice>(
         ShardCall::Retire { .. } => Err(NodeFault::Memory),
         ShardCall::Look(page) => looked(node, page),
         ShardCall::Change(page) => changed(node, page),
+        ShardCall::Enter { .. } => Err(NodeFault::Memory),
     }
 }
 
