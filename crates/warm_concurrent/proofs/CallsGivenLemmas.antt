@@ -9,16 +9,18 @@ use Rattle.warm_history.specs.References.{IsIn}
 use Rattle.warm_history.specs.Histories.{references_of}
 use Rattle.warm_turn.specs.CallHistories.{as_spent}
 use Rattle.warm_peer.specs.Answers.{refs_in}
-use Rattle.warm_shards.specs.Parts.{part_of_batch}
-use Rattle.warm_shards.specs.Shards.{of_first_shards, of_shard, shard_of}
+use Rattle.warm_shards.specs.Shards.{IsShardCount, of_first_shards, of_shard, shard_of}
+use Rattle.warm_shards.specs.Visits.{VisitState, absorb_visit}
 use Rattle.warm_shards.proofs.Lists.{from_filter, in_both, in_filter, in_first, in_second}
 use Rattle.warm_shard_machine.specs.declared.calls.ShardCall.{ShardCall}
-use Rattle.warm_shard_machine.specs.declared.calls.ShardCall.TheVariants.{Absorb, Answer, CopyHistory, Offer, Raise, TakeIn}
+use Rattle.warm_shard_machine.specs.declared.calls.ShardCall.TheVariants.{Absorb, Answer, CopyHistory, Enter, Offer, Raise, TakeIn}
 use Rattle.warm_shard_machine.specs.declared.calls.ShardReply.{ShardReply}
-use Rattle.warm_shard_machine.specs.declared.calls.ShardReply.TheVariants.{Copied, Done, Refused}
+use Rattle.warm_shard_machine.specs.declared.calls.ShardReply.TheVariants.{Copied, Done, Entered, Refused}
+use Rattle.warm_shard_machine.specs.Entering.{gave_first}
 use Rattle.warm_frames.specs.declared.message.Message.{Message}
 use Rattle.warm_frames.specs.declared.message.Message.TheVariants.{Entries, Digest, Want}
 use Rattle.warm_gossip.specs.declared.fault.NodeFault.{NodeFault}
+use Rattle.warm_gossip.specs.declared.fault.NodeFault.TheVariants.{Memory}
 use Rattle.warm_concurrent.specs.declared.gossip.NotReceived.{NotReceived}
 use Rattle.warm_concurrent.specs.declared.gossip.NotReceived.TheVariants.{Answering, Comparing, Raising, Taking}
 use Rattle.warm_concurrent.specs.declared.fault.SharedFault.{SharedFault}
@@ -29,10 +31,13 @@ use Rattle.warm_concurrent.specs.Copying.{GivesCopy, no_history}
 use Rattle.warm_concurrent.specs.Given.{HasGiven, HasGivenNothing, SameGiven, ThreadsGive, gave_call, given_to_first, only_horizon, shards_given}
 use Rattle.warm_concurrent.specs.Answering.{AnswerFails, AnswersPart, OfferFails, Offers, offer_at, offer_reply}
 use Rattle.warm_concurrent.specs.Gossip.{DigestsStop, ReceiveStops, RequestStops}
-use Rattle.warm_concurrent.specs.Whole.{AbsorbFails, Does, RaiseFails, RaisesFirst, TakeFails, history_message, part_call}
-use Rattle.warm_concurrent.proofs.GivenLemmas.{EachGives, Gives, absorbed_each, all_given, answer_gives, as_given, gathered_each, given_as, given_by_sum, given_none, given_then, gives_as, gives_called, gives_none, message_each, none_twice, raised_each, taken_each}
+use Rattle.warm_concurrent.specs.Visiting.{EntryFails, IsGoneThrough, VisitFails, as_stopped}
+use Rattle.warm_concurrent.specs.Whole.{Does, RaiseFails, RaisesFirst, TakeFails, history_message, part_call}
+use Rattle.warm_concurrent.proofs.GivenLemmas.{EachGives, Gives, all_given, answer_gives, as_given, gathered_each, given_as, given_by_sum, given_none, given_then, gives_as, gives_called, gives_none, message_each, none_twice, raised_each, taken_each}
+use Rattle.warm_concurrent.proofs.EntryLemmas.{names_next}
 use Rattle.warm_concurrent.proofs.LawLemmas.{below}
 use Rattle.warm_concurrent.proofs.ReferenceSetLemmas.{none_union, same_self, sum, union_none}
+use Rattle.warm_concurrent.proofs.VisitedLemmas.{batch_given, gave_refused}
 
 -- ---- calls of one shard
 
@@ -124,11 +129,11 @@ fails_each old new i c TurnsSpent none lt fails = one_nothing old new i lt fails
 fails_each old new i c why none lt fails = absurd fails
 
 -- a call that is refused gave nothing
-gave_refused : (c : ShardCall) (w : NodeFault) → gave_call c (Refused w) ≡ set_of_list []
-gave_refused (Absorb batch) w = refl
-gave_refused (Raise time) w = refl
-gave_refused (TakeIn horizon es) w = refl
-gave_refused c w = refl
+gave_none : (c : ShardCall) (w : NodeFault) → gave_call c (Refused w) ≡ set_of_list []
+gave_none (Absorb batch) w = refl
+gave_none (Raise time) w = refl
+gave_none (TakeIn horizon es) w = refl
+gave_none c w = refl
 
 sum_nothing : (n : ℕ) → sum nothing n ≡ set_of_list []
 sum_nothing zero = refl
@@ -264,16 +269,32 @@ no_parts : (S : ReferenceSet) (old : List ShardPass)
     → EachGives (λ i. of_shard (length old) i S) 0 old old
 no_parts S old = record { count = refl; first = λ i lt. absurd (omega (arith, lt)); others = λ i le. refl }
 
-batch_stopped : (batch : List Reference) (k : ℕ) (why : SharedFault) (old new : List ShardPass)
-    → AbsorbFails batch k why old new
+-- an entry that fails gave nothing
+entry_nothing : (v : VisitState) (k : ℕ) (why : SharedFault) (old new : List ShardPass)
+    → k < length old → EntryFails v k why old new → EachGives nothing (length old) old new
+entry_nothing v k (Node Memory) old new lt fails =
+    one_nothing old new k lt fails.1
+    (gives_as (gave_first v.plan true) (set_of_list []) (shard_pass old k) (shard_pass new k) (gave_refused v.plan) (gives_called (shard_pass old k) (shard_pass new k) (Enter (length old) k v) (Entered (as_stopped v)) fails.0))
+entry_nothing v k TurnsSpent old new lt fails = one_nothing old new k lt fails.1 (gives_spent (shard_pass old k) (shard_pass new k) fails.0)
+entry_nothing v k why old new lt fails = absurd fails
+
+batch_given_all : (id : ℕ) (batch : List Reference) (old new : List ShardPass)
+    → IsShardCount (length old) → IsGoneThrough (absorb_visit id (length old) batch) old new
+    → HasGiven (set_of_list batch) old new
+batch_given_all id batch old new count (w, gone) =
+    all_given (set_of_list batch) old new count (batch_given old new (absorb_visit id (length old) batch) w batch (length old) gone.goes refl gone.well (inr (gone.over, refl)))
+
+batch_stopped : (id : ℕ) (batch : List Reference) (k : ℕ) (why : SharedFault)
+    (old new : List ShardPass) → VisitFails (absorb_visit id (length old) batch) k why old new
     → HasGiven (given_to_first (length old) k (set_of_list batch)) old new
-batch_stopped batch k why old new (inl none) =
+batch_stopped id batch k why old new (inl none) =
     let S = set_of_list batch in
     subst (λ (n : ℕ). HasGiven (given_to_first (length old) n S) old new) (sym none.0)
     (stopped S 0 old old new (omega arith) (no_parts S old) (given_none (length old) old new none.2))
-batch_stopped batch k why old new (inr (mid, lt, part, absorbed, fails)) =
-    stopped (set_of_list batch) k old mid new (omega (arith, lt)) (absorbed_each batch k old mid absorbed)
-    (fails_each mid new k (Absorb (part_of_batch (length old) k batch)) why (λ w. refl) (omega (arith, lt, absorbed.count)) fails)
+batch_stopped id batch k why old new (inr (w, stops)) =
+    let well : w.stopped ≡ false = names_next w.stopped w.plan k (sym stops.next) in
+    let given = batch_given old stops.mid (absorb_visit id (length old) batch) w batch k stops.goes refl well (inl stops.next) in
+    stopped (set_of_list batch) k old stops.mid new (omega (arith, stops.there, given.count)) given (entry_nothing w k why stops.mid new stops.there stops.fails)
 
 raise_stopped : (time k : ℕ) (why : SharedFault) (old new : List ShardPass)
     → RaiseFails time k why old new
@@ -359,8 +380,8 @@ receipt_stopped (Want sender time request) why old new stops = request_stopped s
 
 pub threads_give : ThreadsGive
 threads_give old new count = record {
-  absorbed = λ batch so. all_given (set_of_list batch) old new count (absorbed_each batch (length old) old new so);
-  batch_stopped = λ batch k why so. batch_stopped batch k why old new so;
+  absorbed = λ id batch so. batch_given_all id batch old new count so;
+  batch_stopped = λ id batch k why so. batch_stopped id batch k why old new so;
   raised = λ time so. all_given (only_horizon time) old new count (raised_each time (length old) old new so);
   raise_stopped = λ time k why so. raise_stopped time k why old new so;
   received = λ message answers so. all_given (refs_in message) old new count (message_each message answers old new so);
@@ -368,7 +389,7 @@ threads_give old new count = record {
   joined = λ h so. all_given (references_of h) old new count (taken_each (history_message h) (length old) old new so);
   join_stopped = λ h k why so. take_stopped (history_message h) k why old new so;
   called = λ i call reply lt so. called_given old new i call reply lt so;
-  refused = λ i call why lt fails. gave_nothing (length old) old new (fails_each old new i call why (gave_refused call) lt fails);
+  refused = λ i call why lt fails. gave_nothing (length old) old new (fails_each old new i call why (gave_none call) lt fails);
   done = λ call k none so. gave_nothing k old new (as_given (Does call) nothing k old new (λ i p q r. gives_as (gave_call call Done) (set_of_list []) p q none (gives_called p q call Done r)) so);
   offered = λ offers k so. gave_nothing k old new (as_given (λ i. Offers (offer_at offers i) i) nothing k old new (λ i p q r. gives_called p q Offer (offer_reply (offer_at offers i)) r) so.1);
   answered = λ request parts k so. gave_nothing k old new (as_given (λ i. AnswersPart (length old) request (slice_index_or parts i []) i) nothing k old new (λ i. answer_gives (length old) request (slice_index_or parts i []) i) so.1);

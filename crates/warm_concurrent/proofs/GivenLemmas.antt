@@ -2,18 +2,17 @@
 use Rattle.std.specs.Prelude.{slice_index_or}
 use Rattle.std.proofs.Common.{◌≡◌, ℕ, zero, suc, ◌<◌, List, [], ◌∷◌, ◌++◌, length, map, refl, sym, ap, subst, ◌∙◌, arith, append-nil, append_assoc}
 use Rattle.std.proofs.lemmas.List.{length-append, map_push}
-use Rattle.warm_stamps.specs.declared.Reference.{Reference}
 use Rattle.warm_history.specs.ReferenceSets.{ReferenceSet, set_of_list, ◌∪◌}
 use Rattle.warm_frames.specs.declared.message.Message.{Message}
 use Rattle.warm_frames.specs.declared.message.Message.TheVariants.{Entries, Digest, Want}
 use Rattle.warm_machine.specs.Runs.{operation}
 use Rattle.warm_peer.specs.Answers.{refs_in}
-use Rattle.warm_shards.specs.Parts.{part_of_batch, part_of_message}
+use Rattle.warm_shards.specs.Parts.{part_of_message}
 use Rattle.warm_shards.specs.Shards.{IsShardCount, of_shard}
 use Rattle.warm_shards.proofs.AreShardsLemmas.{some_count}
 use Rattle.warm_shards.proofs.WholeParts.{message_part}
 use Rattle.warm_shard_machine.specs.declared.calls.ShardCall.{ShardCall}
-use Rattle.warm_shard_machine.specs.declared.calls.ShardCall.TheVariants.{Absorb, Answer, Offer, Raise}
+use Rattle.warm_shard_machine.specs.declared.calls.ShardCall.TheVariants.{Answer, Offer, Raise}
 use Rattle.warm_shard_machine.specs.declared.calls.ShardReply.{ShardReply}
 use Rattle.warm_shard_machine.specs.declared.calls.ShardReply.TheVariants.{Answers, Done, Kept}
 use Rattle.warm_concurrent.specs.declared.answering.Offered.{Offered}
@@ -24,7 +23,7 @@ use Rattle.warm_concurrent.specs.Given.{HasGiven, SameGiven, gave, gave_call, ga
 use Rattle.warm_shard_machine.specs.Laws.{Log}
 use Rattle.warm_concurrent.specs.Gossip.{Compares, ShardsReceive, ShardsTakeDigests, ShardsTakeRequest}
 use Rattle.warm_concurrent.specs.Laws.{all_of}
-use Rattle.warm_concurrent.specs.Whole.{AbsorbsFirst, AbsorbsPart, First, RaisesFirst, RaisesShard, TakesFirst, TakesPart, part_call}
+use Rattle.warm_concurrent.specs.Whole.{First, RaisesFirst, RaisesShard, TakesFirst, TakesPart, part_call}
 use Rattle.warm_concurrent.proofs.ListLemmas.{push_each}
 use Rattle.warm_concurrent.proofs.ReferenceSetLemmas.{all_of_push, gave_append, sum, sum_is, union_none}
 
@@ -142,22 +141,7 @@ all_given S old new count each =
     let some : 0 < k = some_count k count in
     given_by_sum (λ i. of_shard k i S) S old new each.first (sum_is k k S some (λ r. omega (arith, some)))
 
--- ---- batches and horizons
-
-absorb_gives : (count : ℕ) (batch : List Reference) (i : ℕ) (old new : ShardPass)
-    → AbsorbsPart count batch i old new → Gives (of_shard count i (set_of_list batch)) old new
-absorb_gives count batch i old new so = cases (part_of_batch count i batch) refl
-  where
-    cases : (part : List Reference) → part_of_batch count i batch ≡ part
-        → Gives (set_of_list (part_of_batch count i batch)) old new
-    cases [] is = gives_as (set_of_list []) (set_of_list (part_of_batch count i batch)) old new (ap set_of_list (sym is)) (gives_none old new (so.0 is))
-    cases (r ∷ rs) is = gives_called old new (Absorb (part_of_batch count i batch)) Done (so.1 (λ none. let no : r ∷ rs ≡ [] = sym is ∙ none in absurd (cc)))
-
-pub absorbed_each : (batch : List Reference) (k : ℕ) (old new : List ShardPass)
-    → AbsorbsFirst batch k old new
-    → EachGives (λ i. of_shard (length old) i (set_of_list batch)) k old new
-absorbed_each batch k old new so =
-    as_given (AbsorbsPart (length old) batch) (λ i. of_shard (length old) i (set_of_list batch)) k old new (absorb_gives (length old) batch) so
+-- ---- horizons
 
 pub raised_each : (time k : ℕ) (old new : List ShardPass) → RaisesFirst time k old new
     → EachGives (λ i. only_horizon time) k old new

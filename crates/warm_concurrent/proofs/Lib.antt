@@ -6,7 +6,7 @@ pub mod WholeCallLemmas
 pub mod GatheredOfferLemmas
 pub mod CopyLemmas
 pub mod RaisingLemmas
-pub mod BatchPartLemmas
+pub mod EntryLemmas
 pub mod RequestPartLemmas
 pub mod LawLemmas
 pub mod CloseRightLemmas
@@ -15,6 +15,7 @@ pub mod OwnPageLemmas
 pub mod LookLemmas
 pub mod ReferenceSetLemmas
 pub mod GivenLemmas
+pub mod VisitedLemmas
 pub mod CallsGivenLemmas
 pub mod ClosedShardLemmas
 pub mod TwoThreadBatchLemmas

@@ -22,28 +22,33 @@ use Rattle.warm_peer.specs.Answers.{refs_in}
 use Rattle.warm_gossip.specs.State.{NodeState}
 use Rattle.warm_gossip.specs.Victims.{IsEvicted}
 use Rattle.warm_shards.specs.Shards.{AreShards, IsShardCount, of_first_shards, shard_at, whole}
+use Rattle.warm_shards.specs.Visits.{absorb_visit}
 use Rattle.warm_concurrent.specs.declared.answering.Offered.{Offered}
 use Rattle.warm_shard_machine.specs.declared.calls.ShardCall.{ShardCall}
 use Rattle.warm_shard_machine.specs.declared.calls.ShardCall.TheVariants.{Absorb, Raise, Pin, Look}
 use Rattle.warm_shard_machine.specs.declared.calls.ShardCall.TheVariants.{Change, PinFilled}
 use Rattle.warm_shard_machine.specs.declared.calls.ShardCall.TheVariants.{PinZeroed, TakeIn, Victim}
-use Rattle.warm_shard_machine.specs.declared.calls.ShardCall.TheVariants.{WarmStep}
+use Rattle.warm_shard_machine.specs.declared.calls.ShardCall.TheVariants.{Enter, WarmStep}
 use Rattle.warm_shard_machine.specs.declared.calls.ShardReply.{ShardReply}
-use Rattle.warm_shard_machine.specs.declared.calls.ShardReply.TheVariants.{Done, Kept, Page}
+use Rattle.warm_shard_machine.specs.declared.calls.ShardReply.TheVariants.{Done, Entered, Kept}
+use Rattle.warm_shard_machine.specs.declared.calls.ShardReply.TheVariants.{Page}
 use Rattle.warm_concurrent.specs.declared.fault.SharedFault.{SharedFault}
 use Rattle.warm_concurrent.specs.declared.gossip.NotReceived.{NotReceived}
 use Rattle.warm_concurrent.specs.declared.gossip.NotReceived.TheVariants.{Raising, Taking}
 use Rattle.warm_concurrent.specs.Answering.{AnswersFirst, OffersFirst}
-use Rattle.warm_concurrent.specs.Attached.{Known, ShardPass, ShardTurn, known_of, shard_turn}
+use Rattle.warm_concurrent.specs.Attached.{Known, ShardPass, ShardTurn, known_of, replica_of}
+use Rattle.warm_concurrent.specs.Attached.{shard_turn}
 use Rattle.warm_concurrent.specs.Clauses.{AnsweredByShard, CallFails}
 use Rattle.warm_concurrent.specs.Copying.{CopiesFirst}
 use Rattle.warm_concurrent.specs.Gossip.{ReceiveStops, ShardsReceive}
 use Rattle.warm_concurrent.specs.Laws.{all_of}
 use Rattle.warm_concurrent.specs.Opening.{AreClosed, AreFirst, AreHalved, PassesAreJoined, AreSplit}
 use Rattle.warm_concurrent.specs.Opening.{openings, shards_over}
+use Rattle.warm_shard_machine.specs.Entering.{gave_entry}
 use Rattle.warm_shard_machine.specs.Laws.{Log}
 use Rattle.warm_shard_machine.specs.ShardSteps.{ShardState, ShardStep}
-use Rattle.warm_concurrent.specs.Whole.{AbsorbFails, AbsorbsFirst, DoneFirst, JoinFails, JoinsFirst}
+use Rattle.warm_concurrent.specs.Visiting.{IsGoneThrough, VisitFails}
+use Rattle.warm_concurrent.specs.Whole.{DoneFirst, JoinFails, JoinsFirst}
 use Rattle.warm_concurrent.specs.Whole.{RaiseFails, RaisesFirst}
 
 -- Sets of references
@@ -64,12 +69,13 @@ only_horizon time = record { horizon = time; given = [] }
 abbrev pub log_at : List Log → ℕ → Log
 log_at logs i = slice_index_or logs i []
 
--- what a call with this reply gave its shard: the references of a batch, a horizon, or the
--- references and the horizon of entries
+-- what a call with this reply gave its shard: the references of a batch, a horizon, the references
+-- and the horizon of entries, or those of an errand of a visit
 abbrev pub gave_call : ShardCall → ShardReply → ReferenceSet
 gave_call (Absorb batch) Done = set_of_list batch
 gave_call (Raise time) (Kept horizon) = only_horizon time
 gave_call (TakeIn horizon entries) Done = references_of (history_of_entries_at horizon entries)
+gave_call (Enter count number v) (Entered w) = gave_entry v w
 gave_call call reply = set_of_list []
 
 -- what these calls gave their shard
@@ -152,10 +158,11 @@ shards_given count why = count
 -- any other call of several shards. One of these that stops at a shard is such a call of the shards
 -- before, and one that is refused.
 pub record CallsAreGiven (old new : List ShardPass) : Type 0 where
-  pub absorbed : (batch : List Reference) → AbsorbsFirst batch (length old) old new
+  pub absorbed : (id : ℕ) (batch : List Reference)
+      → IsGoneThrough (absorb_visit id (length old) batch) old new
       → HasGiven (set_of_list batch) old new
-  pub batch_stopped : (batch : List Reference) (k : ℕ) (why : SharedFault)
-      → AbsorbFails batch k why old new
+  pub batch_stopped : (id : ℕ) (batch : List Reference) (k : ℕ) (why : SharedFault)
+      → VisitFails (absorb_visit id (length old) batch) k why old new
       → HasGiven (given_to_first (length old) k (set_of_list batch)) old new
   pub raised : (time : ℕ) → RaisesFirst time (length old) old new
       → HasGiven (only_horizon time) old new
@@ -198,9 +205,10 @@ TwoThreadsAreHeld = (S : ReferenceSet) (opened : List NodeState) (turns : List S
     (first here there mine yours all : List ShardPass) (one two : List Reference)
     (results : List (Result NodeState Busy)) → AreShards opened
     → openings turns ≡ shards_over opened → StandsFor (whole opened) S → AreFirst turns first
-    → AreHalved first here → AreSplit first there → AbsorbsFirst one (length turns) here mine
-    → AbsorbsFirst two (length turns) there yours → PassesAreJoined mine yours all
-    → AreClosed turns all results
+    → AreHalved first here → AreSplit first there
+    → IsGoneThrough (absorb_visit (replica_of turns) (length turns) one) here mine
+    → IsGoneThrough (absorb_visit (replica_of turns) (length turns) two) there yours
+    → PassesAreJoined mine yours all → AreClosed turns all results
     → (nodes : List NodeState) × (results ≡ map (λ n. Ok n) nodes)
     × StandsFor (whole nodes) (S ∪ (set_of_list one ∪ set_of_list two))
 

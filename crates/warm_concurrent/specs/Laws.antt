@@ -8,7 +8,7 @@ use Rattle.warm_machine.specs.Runs.{Runs}
 use Rattle.warm_frames.specs.declared.message.Message.{Message}
 use Rattle.warm_gossip.specs.State.{NodeState}
 use Rattle.warm_shards.specs.Shards.{AreShards, HoldsShard}
-use Rattle.warm_stamps.specs.declared.Reference.{Reference}
+use Rattle.warm_shards.specs.Visits.{VisitState}
 use Rattle.warm_concurrent.specs.declared.answering.Offered.{Offered}
 use Rattle.warm_shard_machine.specs.declared.calls.ShardCall.{ShardCall}
 use Rattle.warm_shard_machine.specs.declared.calls.ShardReply.{ShardReply}
@@ -19,7 +19,8 @@ use Rattle.warm_concurrent.specs.Clauses.{AnsweredByShard, CallFails}
 use Rattle.warm_concurrent.specs.Copying.{CopiesFirst}
 use Rattle.warm_concurrent.specs.Opening.{ClosesShard, PassesAreJoined, shards_over, state_at}
 use Rattle.warm_shard_machine.specs.ShardSteps.{ShardState, ShardStep}
-use Rattle.warm_concurrent.specs.Whole.{AbsorbsFirst, DoneFirst, RaisesFirst, TakesFirst}
+use Rattle.warm_concurrent.specs.Visiting.{GoesByTurns}
+use Rattle.warm_concurrent.specs.Whole.{DoneFirst, RaisesFirst, TakesFirst}
 
 -- The pages of a shard
 
@@ -75,8 +76,7 @@ pub record OverCalls (So : List ShardPass → List ShardPass → Type 0) : Type 
       → i < length old → AnsweredByShard old i call reply new → So old new
   pub refused : (old new : List ShardPass) (i : ℕ) (call : ShardCall) (why : SharedFault)
       → i < length old → CallFails old i call why new → So old new
-  pub absorbed : (old new : List ShardPass) (k : ℕ) (batch : List Reference)
-      → AbsorbsFirst batch k old new → So old new
+  pub visited : (old new : List ShardPass) (v w : VisitState) → GoesByTurns v old w new → So old new
   pub raised : (old new : List ShardPass) (k time : ℕ) → RaisesFirst time k old new → So old new
   pub taken : (old new : List ShardPass) (k : ℕ) (message : Message) → TakesFirst message k old new
       → So old new

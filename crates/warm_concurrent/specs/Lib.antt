@@ -2,6 +2,7 @@ pub mod Attached
 pub mod Clauses
 pub mod Faults
 pub mod Opening
+pub mod Visiting
 pub mod Whole
 pub mod Laws
 pub mod Rights

@@ -31,10 +31,10 @@ use Rattle.warm_pool.specs.View.{IsUnfixed, view_of}
 use Rattle.warm_frames.specs.declared.message.Message.{Message}
 use Rattle.warm_pool.specs.declared.slot.Slot.{Slot}
 use Rattle.warm_stamps.specs.declared.PageId.{PageId}
-use Rattle.warm_stamps.specs.declared.Reference.{Reference}
 use Rattle.warm_history.specs.Histories.{HistoryView}
 use Rattle.warm_gossip.specs.State.{NodeState}
 use Rattle.warm_shards.specs.Shards.{shard_at}
+use Rattle.warm_shards.specs.Visits.{VisitState}
 use Rattle.warm_concurrent.specs.declared.answering.Offered.{Offered}
 use Rattle.warm_shard_machine.specs.declared.calls.ShardCall.{ShardCall}
 use Rattle.warm_shard_machine.specs.declared.calls.ShardCall.TheVariants.{Pin, Unpin}
@@ -50,7 +50,8 @@ use Rattle.warm_concurrent.specs.Opening.{AreClosed, AreFirst, AreHalved, AreSpl
 use Rattle.warm_concurrent.specs.Opening.{openings, shards_over}
 use Rattle.warm_concurrent.specs.Rights.{HasWholeRight}
 use Rattle.warm_shard_machine.specs.Pins.{LeadsTo, pin_by, pins_by, pool_pins, unpin_by, unpins_by}
-use Rattle.warm_concurrent.specs.Whole.{AbsorbsFirst, DoneFirst, RaisesFirst, TakesFirst}
+use Rattle.warm_concurrent.specs.Visiting.{GoesByTurns}
+use Rattle.warm_concurrent.specs.Whole.{DoneFirst, RaisesFirst, TakesFirst}
 
 -- Nodes
 
@@ -90,8 +91,7 @@ pub record CallsPin (old new : List ShardPass) : Type 0 where
       → HasPinned (pin_by call reply) (unpin_by call reply) old new
   pub refused : (i : ℕ) (call : ShardCall) (why : SharedFault) → i < length old
       → CallFails old i call why new → HasPinned 0 0 old new
-  pub absorbed : (batch : List Reference) (k : ℕ) → AbsorbsFirst batch k old new
-      → HasPinned 0 0 old new
+  pub visited : (v w : VisitState) → GoesByTurns v old w new → HasPinned 0 0 old new
   pub raised : (time k : ℕ) → RaisesFirst time k old new → HasPinned 0 0 old new
   pub taken : (message : Message) (k : ℕ) → TakesFirst message k old new → HasPinned 0 0 old new
   pub done : (call : ShardCall) (k : ℕ) → unpin_by call Done ≡ 0 → DoneFirst call k old new

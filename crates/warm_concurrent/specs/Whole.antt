@@ -1,14 +1,12 @@
 -- Calls of the whole: shard by shard, in the order of their numbers.
 use Rattle.std.specs.Prelude.{◌≡◌, ◌≢◌, ◌⊎◌, ℕ, ◌<◌, ◌≤◌, List, [], length}
-use Rattle.std.specs.Global.{Vec}
-use Rattle.warm_stamps.specs.declared.Reference.{Reference}
 use Rattle.warm_history.specs.Histories.{HistoryView, entries_of}
 use Rattle.warm_frames.specs.declared.message.Message.{Message}
 use Rattle.warm_frames.specs.declared.message.Message.TheVariants.{Entries}
 use Rattle.warm_frames.specs.Limits.{entries_in, horizon_in}
 use Rattle.warm_gossip.specs.declared.fault.NodeFault.TheVariants.{Memory}
-use Rattle.warm_shards.specs.Parts.{AreShardParts, part_of_batch, part_of_entries}
-use Rattle.warm_shard_machine.specs.declared.calls.ShardCall.TheVariants.{Absorb, Raise, TakeIn}
+use Rattle.warm_shards.specs.Parts.{part_of_entries}
+use Rattle.warm_shard_machine.specs.declared.calls.ShardCall.TheVariants.{Raise, TakeIn}
 use Rattle.warm_shard_machine.specs.declared.calls.ShardCall.TheVariants.{WritePages, WriteBack}
 use Rattle.warm_shard_machine.specs.declared.calls.ShardCall.{ShardCall}
 use Rattle.warm_shard_machine.specs.declared.calls.ShardReply.TheVariants.{Done, Kept}
@@ -25,25 +23,6 @@ pub record First (So : ℕ → ShardPass → ShardPass → Type 0) (k : ℕ) (ol
   pub count : length new ≡ length old
   pub first : (i : ℕ) → i < k → So i (shard_pass old i) (shard_pass new i)
   pub others : (i : ℕ) → k ≤ i → shard_pass new i ≡ shard_pass old i
-
--- a shard absorbed its part of the batch in one turn. If it has none, its turn was not entered
-abbrev pub AbsorbsPart : ℕ → List Reference → ℕ → ShardPass → ShardPass → Type 0
-AbsorbsPart count batch i old new =
-    (part_of_batch count i batch ≡ [] → new ≡ old)
-    × (part_of_batch count i batch ≢ []
-    → Got old.view (Absorb (part_of_batch count i batch)) Done new.view)
-
--- the shards below k have absorbed their parts of the batch, and no other turn was entered
-abbrev pub AbsorbsFirst : List Reference → ℕ → List ShardPass → List ShardPass → Type 0
-AbsorbsFirst batch k old new = First (AbsorbsPart (length old) batch) k old new
-
--- Each shard below k has its part of the batch. The shard k has a part, and refused it or found no
--- ticket; or no memory was left for the parts, and nothing has changed. The others are unchanged.
-abbrev pub AbsorbFails : List Reference → ℕ → SharedFault → List ShardPass → List ShardPass → Type 0
-AbsorbFails batch k why old new = ((k ≡ 0) × (why ≡ Node Memory) × (new ≡ old))
-    ⊎ ((mid : List ShardPass) × (k < length old) × (part_of_batch (length old) k batch ≢ [])
-    × AbsorbsFirst batch k old mid
-    × CallFails mid k (Absorb (part_of_batch (length old) k batch)) why new)
 
 -- a shard forgot all stamps before this time
 abbrev pub RaisesShard : ℕ → ℕ → ShardPass → ShardPass → Type 0
@@ -92,10 +71,6 @@ JoinsFirst h k old new = TakesFirst (history_message h) k old new
 -- are unchanged.
 abbrev pub JoinFails : HistoryView → ℕ → SharedFault → List ShardPass → List ShardPass → Type 0
 JoinFails h k why old new = TakeFails (history_message h) k why old new
-
--- these are the parts of a batch, of each shard its own
-abbrev pub ArePartsOf : ℕ → List Reference → List (Vec Reference) → Type 0
-ArePartsOf shards batch parts = AreShardParts (λ (r : Reference). r.page) shards batch parts
 
 -- Writing back
 

@@ -10,8 +10,8 @@ ghost use Rattle.warm_shard_machine.specs.declared.calls.ShardCall.TheVariants.{
 ghost use Rattle.warm_shard_machine.specs.declared.calls.ShardReply.TheVariants.{Answers, Sent};
 
 use crate::fault::SharedFault;
-use crate::history_calls::Stopped;
 use crate::shared::call_shard;
+use crate::visiting::Stopped;
 use std::alloc::Global;
 use std::sync::Wait;
 use warm_devices::PageDevice;

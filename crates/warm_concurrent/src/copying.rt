@@ -11,8 +11,8 @@ ghost use Rattle.warm_shard_machine.specs.declared.calls.ShardCall.TheVariants.{
 ghost use Rattle.warm_shard_machine.specs.declared.calls.ShardReply.TheVariants.{Copied};
 
 use crate::fault::SharedFault;
-use crate::history_calls::Stopped;
 use crate::shared::{Attached, SharedShards, call_shard};
+use crate::visiting::Stopped;
 use std::alloc::{AllocError, Global};
 use std::sync::Wait;
 use warm_devices::PageDevice;

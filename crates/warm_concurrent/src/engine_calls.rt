@@ -10,9 +10,9 @@ ghost use Rattle.warm_shard_machine.specs.declared.calls.ShardReply.TheVariants.
 ghost use Rattle.warm_concurrent.specs.declared.fault.SharedFault.TheVariants.{PinsFull};
 
 use crate::fault::SharedFault;
-use crate::history_calls::Stopped;
 use crate::pool_calls::do_in;
 use crate::shared::{Attached, SharedShards, call_shard};
+use crate::visiting::Stopped;
 use std::sync::Wait;
 use warm_devices::PageDevice;
 use warm_pool::Slot;

@@ -12,9 +12,10 @@ ghost use Rattle.warm_shard_machine.specs.declared.calls.ShardReply.TheVariants.
 
 use crate::answering::{Offered, answer_all, gather};
 use crate::fault::SharedFault;
-use crate::history_calls::{Stopped, raise_all};
+use crate::history_calls::raise_all;
 use crate::joining::take_parts;
 use crate::shared::{Attached, SharedShards, call_shard};
+use crate::visiting::Stopped;
 use std::alloc::{AllocError, Global};
 use std::sync::Wait;
 use warm_devices::PageDevice;

@@ -6,9 +6,9 @@ ghost use Rattle.warm_concurrent.specs.Attached.{AreOf, AreTurns};
 ghost use Rattle.warm_concurrent.specs.Whole.{JoinFails, JoinsFirst, TakeFails, TakesFirst};
 
 use crate::fault::SharedFault;
-use crate::history_calls::Stopped;
 use crate::pool_calls::do_in;
 use crate::shared::{Attached, SharedShards};
+use crate::visiting::Stopped;
 use std::alloc::{AllocError, Global};
 use std::sync::Wait;
 use warm_devices::PageDevice;

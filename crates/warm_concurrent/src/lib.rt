@@ -17,14 +17,15 @@ mod pool_calls;
 mod retiring;
 mod shared;
 mod sharing;
+mod visiting;
 mod writing;
 
 pub use attaching::{NotClosed, NotDetached};
 pub use fault::SharedFault;
 pub use gossip::NotReceived;
-pub use history_calls::Stopped;
 pub use retiring::NotRetired;
 pub use shared::{Attached, SharedShards};
 pub use sharing::Sharing;
+pub use visiting::Stopped;
 pub use warm_shard_machine::{BoxedHistory, Shard, ShardCall, ShardReply, StateOfShard};
 pub use writing::NotWritten;

@@ -12,4 +12,4 @@ returns-in_default-clause-stopped g c =
 
 pub returns-clause-answers : goal.returns-clause-answers
 returns-clause-answers g c =
-    (c.id.result, c.id.ensures, c.in_ok-copy.copy, c.in_ok-copy.ensures.copied, c.in-Ok.ensures)
+    (c.id.result, c.id.ensures.opened, c.in_ok-copy.copy, c.in_ok-copy.ensures.copied, c.in-Ok.ensures)
