@@ -608,7 +608,9 @@ int visit_raise(visit *of, uint64_t time) {
 }
 
 int visit_offer(visit *of) {
-    fake_begin(of, FAKE_OFFERING, NULL);
+    void *block = malloc(1);
+    if (block == NULL) return WARM_MEMORY;
+    fake_begin(of, FAKE_OFFERING, block);
     return WARM_OK;
 }
 

@@ -152,7 +152,9 @@ int visit_open(visit *handle, uint16_t replica, size_t shards);
 void visit_close(visit *handle);
 
 /* Begin a visit, in place of the one before: to absorb references; to raise the horizon of each
- * shard; to offer; to copy the histories of all shards and join the copies. */
+ * shard; to offer; to copy the histories of all shards and join the copies.
+ * Refused, and the visit before is kept: visit_absorb with WARM_BAD_REPLICA and WARM_MEMORY;
+ * visit_offer with WARM_MEMORY. */
 int visit_absorb(visit *handle, const node_reference *references, size_t count);
 int visit_raise(visit *handle, uint64_t time);
 int visit_offer(visit *handle);

@@ -15,7 +15,7 @@ use Rattle.warm_shards.specs.Shards.{IsShardCount}
 use Rattle.warm_shards.specs.VisitMessages.{final_message, first_message, idle_visit}
 use Rattle.warm_shards.specs.VisitMessages.{resumed, without_message}
 use Rattle.warm_shards.specs.Visits.{HasEntered, VisitState, absorb_visit, copy_of, join_visit}
-use Rattle.warm_shards.specs.Visits.{kept_of, next_shard, receive_visit, result_of}
+use Rattle.warm_shards.specs.Visits.{kept_of, next_shard, offer_visit, receive_visit, result_of}
 use Rattle.warm_c_base.specs.declared.status.Refusal.{Refusal}
 use Rattle.warm_c_base.specs.declared.status.Refusal.TheVariants.{AlreadyOpen, BadReplica}
 use Rattle.warm_c_base.specs.declared.status.Refusal.TheVariants.{BadShards, Closed, Dump, Frame}
@@ -60,6 +60,12 @@ abbrev pub BeginsAbsorb : List WarmReference → OpenVisit → Ending → OpenVi
 BeginsAbsorb batch old (Ok given) new =
     BeginsVisit (λ id n. absorb_visit id n (map reference_of batch)) old new
 BeginsAbsorb batch old (Err why) new = BatchRefused batch why × (new ≡ old)
+
+-- all shards offer their digests; or memory failed, and the visit before is kept
+abbrev pub BeginsOffer : OpenVisit → Ending → OpenVisit → Type 0
+BeginsOffer old (Ok given) new = BeginsVisit offer_visit old new
+BeginsOffer old (Err (Node Memory)) new = new ≡ old
+BeginsOffer old (Err why) new = ⊥
 
 -- A message is received, whose frame the bytes are, and which keeps the limits. Or the bytes are no
 -- frame, or the message does not keep a limit, or memory failed; the visit before is then kept.

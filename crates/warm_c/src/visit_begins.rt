@@ -1,8 +1,9 @@
 //! The calls of an open handle that begin a visit, in place of the one before.
 ghost use Rattle.std.specs.Prelude.{◌≡◌, None};
 ghost use Rattle.warm_shards.specs.VisitMessages.{idle_visit};
-ghost use Rattle.warm_shards.specs.Visits.{copy_visit, offer_visit, raise_visit};
-ghost use Rattle.warm_c.specs.Visits.{BeginsAbsorb, BeginsLoad, BeginsReceive, BeginsVisit};
+ghost use Rattle.warm_shards.specs.Visits.{copy_visit, raise_visit};
+ghost use Rattle.warm_c.specs.Visits.{BeginsAbsorb, BeginsLoad, BeginsOffer, BeginsReceive};
+ghost use Rattle.warm_c.specs.Visits.{BeginsVisit};
 
 use crate::history_calls::references_of;
 use crate::message_limits::{NodeLimits, check_limits};
@@ -38,10 +39,14 @@ impl OpenVisit {
     }
 
     /// Begins [`Visit::offer`].
-    pub fn offer(&mut self, alloc: Global)
-        ensures { BeginsVisit offer_visit self.old self.new }
+    ///
+    /// # Errors
+    /// `Node`, with `Memory`: an allocation failed; nothing has changed.
+    pub fn offer(&mut self, alloc: Global) -> Result<(), Refusal>
+        ensures { BeginsOffer self.old result self.new }
     {
-        self.visit = Visit::offer(alloc, self.visit.id(), self.visit.count());
+        self.visit = Visit::offer(alloc, self.visit.id(), self.visit.count())?;
+        Ok(())
     }
 
     /// Begins [`Visit::copy`].

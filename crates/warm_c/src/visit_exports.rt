@@ -4,11 +4,11 @@
 //! An open handle has one visit after the other, of one replica in so many shards. Between two of
 //! them it is idle: it names no shard, and has made nothing.
 ghost use Rattle.std.specs.Prelude.{◌≡◌, Bool, None, Some};
-ghost use Rattle.warm_shards.specs.Visits.{copy_visit, offer_visit, raise_visit};
+ghost use Rattle.warm_shards.specs.Visits.{copy_visit, raise_visit};
 ghost use Rattle.warm_c.specs.Handles.{OnHandle, Surely};
-ghost use Rattle.warm_c.specs.Visits.{BeginsAbsorb, BeginsLoad, BeginsReceive, BeginsVisit};
-ghost use Rattle.warm_c.specs.Visits.{EndsVisit, EntersNode, HandsOutNext, ListsCopy, NamesShard};
-ghost use Rattle.warm_c.specs.Visits.{OpensVisits, SavesCopy, SaysKept, SaysResult};
+ghost use Rattle.warm_c.specs.Visits.{BeginsAbsorb, BeginsLoad, BeginsOffer, BeginsReceive};
+ghost use Rattle.warm_c.specs.Visits.{BeginsVisit, EndsVisit, EntersNode, HandsOutNext, ListsCopy};
+ghost use Rattle.warm_c.specs.Visits.{NamesShard, OpensVisits, SavesCopy, SaysKept, SaysResult};
 
 use crate::called::closed;
 use crate::handle::Handle;
@@ -101,16 +101,14 @@ pub extern "C" fn visit_raise(alloc: Global, handle: &mut VisitHandle, time: u64
 }
 
 /// Begins a visit that collects the digests and the latest horizon of the shards, to be handed out.
+///
+/// # Errors
+/// 1: an allocation failed; the visit before is kept.
 #[unsafe(no_mangle)]
 pub extern "C" fn visit_offer(alloc: Global, handle: &mut VisitHandle) -> i32
-    ensures { OnHandle (Surely (BeginsVisit offer_visit)) handle.old.held.visit result
-        handle.new.held.visit }
+    ensures { OnHandle BeginsOffer handle.old.held.visit result handle.new.held.visit }
 {
-    let Some(mut visit) = handle.take(alloc) else {
-        return closed();
-    };
-    visit.offer(alloc);
-    put_back(handle, visit, Ok(()))
+    on_visit(alloc, handle, |visit| visit.offer(alloc))
 }
 
 /// Begins a visit that receives the message of a frame, which the limits allow: the shards take in

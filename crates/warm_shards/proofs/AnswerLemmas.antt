@@ -1,38 +1,34 @@
 -- What all shards together answer, send and offer.
-use Rattle.std.proofs.Common.{◌≡◌, ℕ, ◌+◌, ◌<◌, ◌%◌, List, length, set, get_or, Option, Result, Ok, Err, refl, sym, ap, subst, ◌∙◌, arith, ◌≤◌, Bool, true, false}
+use Rattle.std.proofs.Common.{◌≡◌, ℕ, ◌+◌, ◌<◌, ◌%◌, List, length, get_or, Option, Result, Ok, Err, refl, sym, ap, subst, ◌∙◌, arith, ◌≤◌, Bool, true, false}
 use Rattle.std.specs.Prelude.{◌↔◌, IsTrue, IfOk, nat_lt}
 use Rattle.warm_stamps.specs.declared.PageId.{PageId}
 use Rattle.warm_history.specs.Histories.{HistoryView, entries_of, history, references_of}
 use Rattle.warm_history.specs.Since.{carried_since}
 use Rattle.warm_history.proofs.HistoryLemmas.{IsHistory-history}
 use Rattle.warm_digest.specs.BucketDigests.{digests_of}
-use Rattle.warm_frames.specs.Chunks.{bucket_messages, entry_messages}
 use Rattle.warm_frames.specs.Digests.{digest_at}
 use Rattle.warm_frames.specs.declared.layout.TheConstants.{MAX_ENTRIES}
 use Rattle.warm_frames.specs.declared.message.Message.{Message}
-use Rattle.warm_frames.specs.declared.message.Message.TheVariants.{Digest, Entries, Want}
-use Rattle.warm_pool.specs.Unchanged.{KeepsBytes}
+use Rattle.warm_frames.specs.declared.message.Message.TheVariants.{Digest, Entries}
 use Rattle.warm_pool.specs.View.{PoolView}
 use Rattle.warm_gossip.specs.declared.call.Call.TheVariants.{Offer, Send}
-use Rattle.warm_gossip.specs.declared.call.Reply.TheVariants.{Refused, Sent}
+use Rattle.warm_gossip.specs.declared.call.Reply.TheVariants.{Sent}
 use Rattle.warm_gossip.specs.declared.fault.NodeFault.{NodeFault}
 use Rattle.warm_gossip.specs.declared.fault.NodeFault.TheVariants.{Memory, Pool, StaleSlot}
-use Rattle.warm_peer.specs.Answers.{requested_messages, sent, AnswersDigests, IsAnswer}
-use Rattle.warm_gossip.specs.Clauses.{Answered, Goes}
+use Rattle.warm_peer.specs.Answers.{sent}
+use Rattle.warm_gossip.specs.Clauses.{Answered}
 use Rattle.warm_peer.specs.declared.since.SentPortion.{SentPortion}
 use Rattle.warm_peer.specs.Since.{BringsHeld, HasMoreSince, sent_since}
 use Rattle.warm_peer.proofs.SinceLemmas.{brings_held}
-use Rattle.warm_gossip.specs.State.{NodeState, node_view}
+use Rattle.warm_gossip.specs.State.{NodeState}
 use Rattle.warm_shards.specs.Clauses.{SameShards, Together, TogetherAnswered}
 use Rattle.warm_shards.specs.Digests.{FillsShard}
 use Rattle.warm_shards.specs.Shards.{AreShards, as_node, held, shard_at, whole}
 use Rattle.warm_shards.proofs.AreShardsLemmas.{some_shards}
-use Rattle.warm_shards.proofs.Buckets.{bucket_whole, sent_since_whole, since_entries, since_whole, sent_whole, shard_horizon}
-use Rattle.warm_shards.proofs.Calls.{read_at, same_histories, same_ids, same_one, same_whole}
+use Rattle.warm_shards.proofs.Buckets.{sent_since_whole, since_entries, since_whole, sent_whole, shard_horizon}
+use Rattle.warm_shards.proofs.Calls.{read_at, same_histories, same_ids, same_whole}
 use Rattle.warm_shards.proofs.DigestLemmas.{AreGathered, digest_whole, gathered_more}
 use Rattle.std.proofs.lemmas.Bool.{ltb-false, ltb-true}
-use Rattle.warm_history.specs.ReferenceSets.{with_horizon}
-use Rattle.warm_history.proofs.JoinLemmas.{raised_to_no_later}
 
 -- ---- shard by shard, and a caller sees no change
 

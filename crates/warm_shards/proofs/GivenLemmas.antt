@@ -19,7 +19,6 @@ use Rattle.warm_gossip.specs.declared.fault.NodeFault.TheVariants.{Memory}
 use Rattle.warm_gossip.specs.Clauses.{Answered, DevicesAnswered, JoinsEntries, SameView, done}
 use Rattle.warm_gossip.specs.State.{NodeState, NodeView, empty_node, node_view}
 use Rattle.warm_shards.specs.Clauses.{HasPart, TakesInFirst}
-use Rattle.warm_shards.specs.EachShard.{OfFirst, Rises}
 use Rattle.warm_shards.specs.Given.{AreGiven, Gives, GivesOne, IsGiven, IsSame, at_horizon}
 use Rattle.warm_shards.specs.Shards.{AreShards, IsShard, IsShardCount, no_shard, of_first_shards, of_shard, shard_at, shard_of, whole}
 use Rattle.warm_shards.proofs.AreShardsLemmas.{all_shards, at_each, some_shards}

@@ -11,11 +11,10 @@ use Rattle.warm_stamps.specs.declared.Stamp.{Stamp}
 use Rattle.warm_history.specs.Entry.{Entry}
 use Rattle.warm_history.specs.PageHist.{PageHist}
 use Rattle.warm_history.specs.PageHist.TheVariants.{Once, Twice}
-use Rattle.warm_history.specs.ReferenceSets.{ReferenceSet, set_of_list}
+use Rattle.warm_history.specs.ReferenceSets.{set_of_list}
 use Rattle.warm_history.specs.Histories.{history_of_entries_at, references_of}
 use Rattle.warm_history.specs.ListHistories.{hist_stamps, list_references_of, references_of_entry}
 use Rattle.warm_frames.specs.Entries.{FitsInFrame, IsEntryList}
-use Rattle.warm_shards.specs.Clauses.{HasPart}
 use Rattle.warm_shards.specs.Shards.{of_shard, shard_of}
 use Rattle.warm_shards.specs.Parts.{part_of_batch, part_of_entries}
 use Rattle.warm_shards.proofs.Dividing.{part_is_own}

@@ -1,14 +1,13 @@
 -- Receiving a message: its horizon first, and then its entries or its answer.
-use Rattle.std.proofs.Common.{◌≡◌, ℕ, List, refl, sym, ap, subst, ◌∙◌}
+use Rattle.std.proofs.Common.{◌≡◌, ℕ, List, sym, subst, ◌∙◌}
 use Rattle.warm_history.specs.ReferenceSets.{◌∪◌}
 use Rattle.warm_history.specs.Histories.{history, references_of}
 use Rattle.warm_frames.specs.declared.message.Message.{Message}
-use Rattle.warm_frames.specs.declared.message.Message.TheVariants.{Digest, Entries, Want}
-use Rattle.warm_frames.specs.Limits.{horizon_in}
+use Rattle.warm_frames.specs.declared.message.Message.TheVariants.{Digest, Want}
 use Rattle.warm_gossip.specs.declared.call.Call.TheVariants.{Receive}
 use Rattle.warm_gossip.specs.declared.call.Reply.TheVariants.{Answers}
-use Rattle.warm_peer.specs.Answers.{AnswersDigests, refs_in, requested_messages}
-use Rattle.warm_gossip.specs.State.{NodeState, NodeView, empty_node}
+use Rattle.warm_peer.specs.Answers.{AnswersDigests, requested_messages}
+use Rattle.warm_gossip.specs.State.{NodeState}
 use Rattle.warm_shards.specs.Clauses.{SameShards, TakesInAll, Together}
 use Rattle.warm_shards.specs.Given.{AreGiven, at_horizon}
 use Rattle.warm_shards.specs.Shards.{shard_at, whole}

@@ -1,9 +1,7 @@
 -- What a visit becomes as it enters a node.
-use Rattle.std.proofs.Common.{◌≡◌, ◌≢◌, inl, inr, ℕ, ◌+◌, ◌<◌, ◌≤◌, Bool, true, false, List, [], ◌∷◌, ◌++◌, length, refl, sym, ap, subst, ◌∙◌, arith}
-use Rattle.std.specs.Prelude.{IfSome, None, Ok, OnErr, Option, Err, Result, Some, if◌then◌else◌, nat_lt}
+use Rattle.std.proofs.Common.{◌≡◌, ◌≢◌, inl, inr, ℕ, ◌+◌, ◌<◌, ◌≤◌, Bool, true, false, List, [], ◌∷◌, ◌++◌, refl, sym, ap, subst, ◌∙◌, arith}
+use Rattle.std.specs.Prelude.{IfSome, None, Option, Some, if◌then◌else◌, nat_lt}
 use Rattle.std.proofs.lemmas.Bool.{cases_eq, ltb-false, ltb-true}
-use Rattle.warm_stamps.specs.declared.PageId.{PageId}
-use Rattle.warm_history.specs.ReferenceSets.{ReferenceSet}
 use Rattle.warm_pool.specs.Unchanged.{KeepsBytes}
 use Rattle.warm_gossip.specs.declared.call.Call.TheVariants as call
 use Rattle.warm_gossip.specs.declared.call.Reply.TheVariants as reply
@@ -13,9 +11,9 @@ use Rattle.warm_shards.specs.Given.{IsGiven, IsSame, at_horizon}
 use Rattle.warm_shards.specs.declared.giving.Parts.{Parts}
 use Rattle.warm_shards.specs.declared.visit.Work.{Work}
 use Rattle.warm_shards.specs.declared.visit.Work.TheVariants.{Give, Raise, Read}
-use Rattle.warm_shards.specs.VisitParts.{IsFirstPart, IsPlace, IsReader, IsVisit, after_of, earlier, give_from, made_of, part_at, parts_count, raise_from, visit_of, work_from}
+use Rattle.warm_shards.specs.VisitParts.{IsFirstPart, IsPlace, IsReader, IsVisit, after_of, earlier, give_from, made_of, part_at, raise_from, visit_of, work_from}
 use Rattle.warm_shards.specs.VisitReads.{HasReadOne, IsReadMade}
-use Rattle.warm_shards.specs.Visits.{After, Ask, Enters, Errand, HasEntered, Made, Said, Takes, VisitState, answered, answers_of, at_shard, begun, copy_of, copying, ends, entries_for, entries_for_all, entries_left, entries_unless, gathered, given, giving, joined, keeps, next_shard, offer_in, offering, onward, raise_plan, refused, sending, shard_next}
+use Rattle.warm_shards.specs.Visits.{After, Ask, Errand, HasEntered, Made, VisitState, answered, answers_of, at_shard, begun, copy_of, copying, ends, entries_for, entries_left, entries_unless, gathered, given, giving, joined, keeps, next_shard, offer_in, offering, onward, raise_plan, refused, sending, shard_next}
 use Rattle.warm_shards.proofs.VisitPlans.{give_end, give_here, give_skip, raise_begun, raise_end, raise_here}
 
 -- ---- the next shard
@@ -222,9 +220,9 @@ pub enters_read : (id count time rising shard : ℕ) (v w : VisitState) (kept : 
     let y = visit_of id count time rising shard (Read w) kept stopped in
     HasEntered x n y m × (entries_left y < entries_left x)
 enters_read id count time rising shard v w kept stopped n m is over well read =
-    let then : IsReader id count w = record { id = read.id ∙ is.id; count = read.count ∙ is.count; going = read.going; made = read.made } in
+    let reads : IsReader id count w = record { id = read.id ∙ is.id; count = read.count ∙ is.count; going = read.going; made = read.made } in
     let before = read_is id count time rising shard v kept stopped is over (well ∙ sym is.going) in
-    let after = read_is id count time rising shard w kept stopped then over (well ∙ sym read.going) in
+    let after = read_is id count time rising shard w kept stopped reads over (well ∙ sym read.going) in
     subst (λ (x : VisitState). HasEntered x n (visit_of id count time rising shard (Read w) kept stopped) m × (entries_left (visit_of id count time rising shard (Read w) kept stopped) < entries_left x)) (sym before)
     (subst (λ (y : VisitState). HasEntered v n y m × (entries_left y < entries_left v)) (sym after) (read.entered, read.shorter))
 
@@ -293,7 +291,3 @@ pub gives_none : (id count shard : ℕ) (work : Work) (kept : Option ℕ)
 gives_none id count shard Raise kept other = (refl, refl, refl)
 gives_none id count shard (Give parts) kept other = (refl, refl, refl)
 gives_none id count shard (Read reading) kept other = absurd (other reading refl)
-
-pub any_err : {A E P : Type 0} (result : Result A E) → P → OnErr result P
-any_err (Ok given) is = tt
-any_err (Err why) is = is

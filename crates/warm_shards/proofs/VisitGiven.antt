@@ -1,8 +1,8 @@
 -- What the errands of a visit gave once it is over: that of its plan, whatever others did between
 -- two entries; and that is the whole.
-use Rattle.std.proofs.Common.{◌≡◌, ◌≢◌, ◌⊎◌, inl, inr, ℕ, zero, suc, ◌+◌, ◌-◌, ◌<◌, ◌≤◌, ◌%◌, Bool, true, false, List, [], ◌∷◌, ◌++◌, map, max, refl, sym, ap, subst, ◌∙◌, arith}
+use Rattle.std.proofs.Common.{◌≡◌, ◌⊎◌, inl, inr, ℕ, zero, suc, ◌+◌, ◌<◌, ◌%◌, Bool, true, false, List, [], ◌∷◌, ◌++◌, map, max, refl, sym, ap, ◌∙◌, arith}
 use Rattle.std.specs.Prelude.{None}
-use Rattle.std.specs.List.{flat_map, range_with_len}
+use Rattle.std.specs.List.{range_with_len}
 use Rattle.std.proofs.lemmas.List.{append-nil}
 use Rattle.warm_stamps.specs.declared.Reference.{Reference}
 use Rattle.warm_history.specs.ReferenceSets.{ReferenceSet, set_of_list, ◌∪◌}
@@ -14,10 +14,10 @@ use Rattle.warm_machine.specs.declared.operation.Operation.{Operation}
 use Rattle.warm_machine.specs.Runs.{Runs}
 use Rattle.warm_peer.specs.Answers.{refs_in, requested_buckets}
 use Rattle.warm_shards.specs.Given.{at_horizon}
-use Rattle.warm_shards.specs.Shards.{IsShardCount, of_first_shards, of_shard, shard_of}
+use Rattle.warm_shards.specs.Shards.{of_first_shards, of_shard}
 use Rattle.warm_shards.specs.VisitLaws.{EntersAny, GivesAll, WholeIsGiven, gave_all, gave_errand}
 use Rattle.warm_shards.specs.VisitParts.{give_from}
-use Rattle.warm_shards.specs.Visits.{After, Ask, ComparesOffers, Enters, Errand, Made, Said, Takes, VisitState, at_each, at_shard, compares, copied, copying, gathered, give_plan, given, giving, goes_on, offered, offering, raise_plan, receive_visit, refused, send_plan, sending, sent, each_shard}
+use Rattle.warm_shards.specs.Visits.{After, Ask, ComparesOffers, Errand, Made, Said, Takes, VisitState, at_each, at_shard, compares, copied, copying, gathered, give_plan, given, giving, goes_on, offered, offering, raise_plan, receive_visit, refused, send_plan, sending, sent, each_shard}
 use Rattle.warm_shards.proofs.AreShardsLemmas.{some_count}
 use Rattle.warm_shards.proofs.PartLemmas.{all_parts, next_part, no_part}
 use Rattle.warm_shards.proofs.VisitPlans.{give_end, give_here, give_past}

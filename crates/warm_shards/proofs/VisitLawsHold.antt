@@ -1,7 +1,6 @@
 -- The laws of visits that give.
-use Rattle.std.proofs.Common.{◌≡◌, ℕ, true, false, List, sym, ap, subst, ◌∙◌, refl}
+use Rattle.std.proofs.Common.{◌≡◌, List, subst, refl}
 use Rattle.std.specs.Prelude.{IfErr, OnOk}
-use Rattle.warm_stamps.specs.declared.Reference.{Reference}
 use Rattle.warm_history.specs.ReferenceSets.{ReferenceSet, set_of_list}
 use Rattle.warm_history.specs.Histories.{references_of}
 use Rattle.warm_frames.specs.declared.message.Message.TheVariants.{Entries}

@@ -1,10 +1,10 @@
 -- Digests and requests that shards receive by a visit.
-use Rattle.std.proofs.Common.{◌≡◌, inl, ℕ, ◌<◌, ◌≤◌, Bool, true, false, List, [], length, Result, Ok, Err, max, refl, sym, ap, subst, ◌∙◌, arith}
-use Rattle.std.specs.Prelude.{None, Some, nat_lt}
+use Rattle.std.proofs.Common.{◌≡◌, inl, ℕ, ◌<◌, ◌≤◌, Bool, true, false, List, [], length, Result, Ok, Err, refl, sym, ap, subst, ◌∙◌, arith}
+use Rattle.std.specs.Prelude.{IfErr, IfOk, None, Some, nat_lt}
 use Rattle.std.proofs.lemmas.Bool.{ltb-false, ltb-true}
 use Rattle.warm_history.specs.Entry.{Entry}
-use Rattle.warm_history.specs.ReferenceSets.{ReferenceSet, set_of_list, ◌∪◌}
-use Rattle.warm_history.specs.Histories.{HistoryView, StandsFor, history, references_of}
+use Rattle.warm_history.specs.ReferenceSets.{set_of_list, ◌∪◌}
+use Rattle.warm_history.specs.Histories.{StandsFor, history, references_of}
 use Rattle.warm_history.proofs.HistoryLemmas.{IsHistory-history}
 use Rattle.warm_history.proofs.JoinLemmas.{history_of_own_references, raised_to_no_later}
 use Rattle.warm_frames.specs.Limits.{horizon_in}
@@ -15,14 +15,14 @@ use Rattle.warm_gossip.specs.declared.fault.NodeFault.{NodeFault}
 use Rattle.warm_gossip.specs.declared.call.Call.TheVariants.{Offer, Receive}
 use Rattle.warm_gossip.specs.declared.call.Reply.TheVariants.{Answers, Refused, Sent}
 use Rattle.warm_gossip.specs.State.{NodeState, NodeView, empty_node, node_view}
-use Rattle.warm_pool.specs.View.{PoolView, view_of}
 use Rattle.warm_peer.specs.Answers.{IsAnswer, refs_in}
 use Rattle.warm_shards.specs.Clauses.{KeepPools, SameShards, TakesInFirst, Together}
-use Rattle.warm_shards.specs.Given.{Gives, ReceivesAll, at_horizon}
+use Rattle.warm_shards.specs.Given.{AreGiven, Gives, OffersAll, ReceivesAll, at_horizon}
 use Rattle.warm_shards.specs.Shards.{AreShards, held, of_first_shards, of_shard, shard_at, whole}
 use Rattle.warm_shards.specs.VisitLaws.{EndsAlone, GoesAlone, ReceivesAlone}
 use Rattle.warm_shards.specs.Visits.{HasEntries, VisitState, answers_of, next_shard, offer_in, offer_visit, receive_visit, result_of}
 use Rattle.warm_shards.proofs.AreShardsLemmas.{some_shards}
+use Rattle.warm_shards.proofs.Calls.{same_keeps, same_none}
 use Rattle.warm_shards.proofs.GivenLemmas.{beyond}
 use Rattle.warm_shards.proofs.StandsForLemmas.{shard_stands}
 use Rattle.warm_shards.proofs.VisitLawsHold.{giving_is_one_node}
@@ -105,6 +105,18 @@ receives_late message old new w why are ends well none memory = record {
   pools = ends.pools;
 }
 
+-- there was no memory for the visit, and all were raised
+pub receives_none : (message : Message) (old new : List NodeState) (why : NodeFault)
+    → AreShards old → (HasEntries message → ⊥) → AreGiven (at_horizon (horizon_in message)) old new
+    → why ≡ Memory → ReceivesAll message old (Err why) new
+receives_none message old new why are none raised memory = record {
+  shards = raised.shards;
+  id = ap (λ (v : NodeView). v.id) (raised.given empty_node.pool);
+  received = tt;
+  refused = (memory, all_first message old new are none (ap (λ (v : NodeView). v.history) (raised.given empty_node.pool) ∙ ap (λ S. history (references_of (whole old) ∪ S)) (sym (no_reference message none))));
+  pools = raised.pools;
+}
+
 -- ---- entries
 
 pub receives_given : (sender horizon : ℕ) (es : List Entry) (old new : List NodeState)
@@ -183,10 +195,18 @@ same_not_later message old new result are none le had =
         let first = got.refused.1 in
         first.3 ∙ ap (λ S. history (references_of (whole old) ∪ S)) (ap (of_first_shards (length old) first.0) (no_reference message none) ∙ sym (no_reference message none))
 
-pub asked_so : (message : Message) (old new : List NodeState) (answers : List Message)
-    → ReceivesAll message old (Ok answers) new
-    → IsAnswer (shard_at old 0).id (whole old) message answers
-asked_so message old new answers got = (got.received empty_node.pool).0
+-- what was answered, or that memory was refused
+pub answers_so : (message : Message) (old new : List NodeState)
+    (result : Result (List Message) NodeFault) → ReceivesAll message old result new
+    → IfOk result (IsAnswer (shard_at old 0).id (whole old) message)
+answers_so message old new (Ok answers) got = (got.received empty_node.pool).0
+answers_so message old new (Err why) got = tt
+
+pub only_memory : (message : Message) (old new : List NodeState)
+    (result : Result (List Message) NodeFault) → ReceivesAll message old result new
+    → IfErr result (λ why. why ≡ Memory)
+only_memory message old new (Ok answers) got = tt
+only_memory message old new (Err why) got = got.refused.0
 
 -- ---- offers
 
@@ -200,14 +220,18 @@ pub offers_so : (old new : List NodeState) (v w : VisitState) → AreShards old
 offers_so old new v w are is gone over =
     reading_is_one_node.offers old new w are (subst (λ (x : VisitState). GoesAlone x old w new) is gone) over
 
-pub offers_message : (old new : List NodeState) (w : VisitState) (offer : Message)
-    → Offers old w new → w.stopped ≡ false → Some offer ≡ offer_in w.id w.made
-    → Together old Offer (Sent offer) new
-offers_message old new w offer ends well is =
+-- what a visit with no errand left has offered
+pub offers_all : (old new : List NodeState) (w : VisitState) (offer : Message) → Offers old w new
+    → w.stopped ≡ false → Some offer ≡ offer_in w.id w.made → OffersAll old (Ok offer) new
+offers_all old new w offer ends well is =
     let done = ends.done well in
     let both : Some offer ≡ Some done.0 = is ∙ done.1 in
     let same : offer ≡ done.0 = cc in
-    subst (λ (m : Message). Together old Offer (Sent m) new) (sym same) done.2
+    record {
+      shards = ends.shards;
+      step = subst (λ (m : Message). Together old Offer (Sent m) new) (sym same) done.2;
+      pools = ends.pools;
+    }
 
 pub offers_some : (old new : List NodeState) (w : VisitState) → Offers old w new
     → w.stopped ≡ false → None ≡ offer_in w.id w.made → ⊥
@@ -216,9 +240,23 @@ offers_some old new w ends well is =
     let no : None ≡ Some done.0 = is ∙ done.1 in
     absurd (cc)
 
+-- a shard had no memory
 pub offers_refused : (old new : List NodeState) (w : VisitState) (why : NodeFault) → Offers old w new
-    → w.stopped ≡ true → why ≡ Memory → Together old Offer (Refused why) new
+    → w.stopped ≡ true → why ≡ Memory → OffersAll old (Err why) new
 offers_refused old new w why ends stopped memory =
     let first = ends.stopped stopped in
     let known : whole new ≡ whole old = first.3 ∙ raised_to_no_later (whole old) 0 (IsHistory-history (held old)) (omega arith) in
-    subst (λ (f : NodeFault). Together old Offer (Refused f) new) (sym memory) (λ pool. (λ i. record { id = ends.id i; history = known i; pool = pool }))
+    record {
+      shards = ends.shards;
+      step = subst (λ (f : NodeFault). Together old Offer (Refused f) new) (sym memory) (λ pool. (λ i. record { id = ends.id i; history = known i; pool = pool }));
+      pools = ends.pools;
+    }
+
+-- there was no memory for the visit, and nothing has changed
+pub offers_none : (ns : List NodeState) (why : NodeFault) → AreShards ns → why ≡ Memory
+    → OffersAll ns (Err why) ns
+offers_none ns why are memory = record {
+  shards = are;
+  step = subst (λ (f : NodeFault). Together ns Offer (Refused f) ns) (sym memory) (λ pool. refl);
+  pools = same_keeps ns ns (same_none ns);
+}

@@ -4,14 +4,15 @@ use Rattle.warm_history.specs.ReferenceSets.{ReferenceSet, ◌∪◌}
 use Rattle.warm_history.specs.Histories.{history, references_of}
 use Rattle.warm_frames.specs.declared.message.Message.{Message}
 use Rattle.warm_peer.specs.Answers.{refs_in}
-use Rattle.warm_gossip.specs.declared.call.Call.TheVariants.{Receive}
-use Rattle.warm_gossip.specs.declared.call.Reply.TheVariants.{Answers}
+use Rattle.warm_gossip.specs.declared.call.Call.TheVariants.{Offer, Receive}
+use Rattle.warm_gossip.specs.declared.call.Reply.TheVariants.{Answers, Sent}
 use Rattle.warm_pool.specs.Unchanged.{KeepsBytes}
 use Rattle.warm_gossip.specs.declared.fault.NodeFault.{NodeFault}
 use Rattle.warm_gossip.specs.declared.fault.NodeFault.TheVariants.{Memory}
 use Rattle.warm_gossip.specs.Clauses.{SameView}
 use Rattle.warm_gossip.specs.State.{NodeState, node_view}
 use Rattle.warm_shards.specs.Clauses.{KeepPools, TakesInAll, TakesInFirst, Together}
+use Rattle.warm_shards.specs.Clauses.{TogetherAnswered}
 use Rattle.warm_shards.specs.Shards.{AreShards, shard_at}
 
 -- no reference, at this horizon
@@ -63,4 +64,12 @@ pub record ReceivesAll (message : Message) (old : List NodeState) (result : Resu
   pub id : (shard_at new 0).id ≡ (shard_at old 0).id
   pub received : IfOk result (λ answers. Together old (Receive message) (Answers answers) new)
   pub refused : IfErr result (λ why. (why ≡ Memory) × TakesInFirst old (refs_in message) new)
+  pub pools : KeepPools old new
+
+-- What a call leaves by which shards offer their digests. They have offered what one node does, or
+-- memory was refused; nothing has changed that a caller sees.
+pub record OffersAll (old : List NodeState) (result : Result Message NodeFault)
+    (new : List NodeState) : Type 0 where
+  pub shards : AreShards new
+  pub step : TogetherAnswered old Offer Sent result new
   pub pools : KeepPools old new

@@ -1,8 +1,10 @@
 -- How a visit that reads is held: what it asks for next, and what it has.
 use Rattle.std.specs.Prelude.{◌≡◌, ℕ, ◌+◌, ◌-◌, ◌%◌, ◌^◌, ◌<◌, ◌≤◌, true, false, List, [], ◌∷◌, map}
-use Rattle.std.specs.Prelude.{Option, Some, None, Result, Ok, Err}
+use Rattle.std.specs.Prelude.{replicate, Option, Some, None, Result, Ok, Err}
 use Rattle.std.specs.List.{range_with_len}
 use Rattle.warm_stamps.specs.declared.PageId.{PageId}
+use Rattle.warm_stamps.specs.declared.TheConstants.{BUCKETS}
+use Rattle.warm_frames.specs.declared.layout.TheConstants.{DIGEST_SIZE}
 use Rattle.warm_frames.specs.declared.message.Message.{Message}
 use Rattle.warm_frames.specs.declared.message.Message.TheVariants.{Entries, Want}
 use Rattle.warm_gossip.specs.declared.fault.NodeFault.{NodeFault}
@@ -52,6 +54,15 @@ from_shard first count ask = map (λ i. at_shard i ask) (range_with_len first (c
 -- what shards have offered
 abbrev pub gathered_in : Gathering → Made
 gathered_in g = gathered g.horizon g.digests
+
+-- zeros in place of each digest, at no horizon, and these digests wait
+abbrev pub nothing_gathered : Option (List (List ℕ)) → Gathering
+nothing_gathered waiting = record {
+  shard = 0;
+  horizon = 0;
+  digests = replicate BUCKETS (replicate DIGEST_SIZE 0);
+  waiting = waiting;
+}
 
 -- the next shard offers, which is gathered; or it refuses, and nothing changes
 abbrev pub AddsOffer : ℕ → NodeState → Gathering → Result Unit NodeFault → NodeState → Gathering

@@ -4,11 +4,9 @@ ghost use Rattle.warm_stamps.specs.declared.TheConstants.{BUCKETS};
 ghost use Rattle.warm_frames.specs.declared.message.Message.{Message};
 ghost use Rattle.warm_peer.specs.Answers.{IsAnswer};
 ghost use Rattle.warm_gossip.specs.declared.fault.NodeFault.TheVariants.{Memory};
-ghost use Rattle.warm_gossip.specs.declared.call.Call.TheVariants.{Offer};
-ghost use Rattle.warm_gossip.specs.declared.call.Reply.TheVariants.{Sent};
-ghost use Rattle.warm_shards.specs.Clauses.{KeepPools, SameShards, TogetherAnswered};
+ghost use Rattle.warm_shards.specs.Clauses.{SameShards};
 ghost use Rattle.warm_shards.specs.Digests.{FillsShard};
-ghost use Rattle.warm_shards.specs.Given.{ReceivesAll};
+ghost use Rattle.warm_shards.specs.Given.{OffersAll, ReceivesAll};
 ghost use Rattle.warm_shards.specs.Shards.{AreShards, shard_at, whole};
 ghost use Rattle.warm_shards.specs.Visits.{HasEntries, receive_visit};
 
@@ -63,16 +61,16 @@ pub(crate) fn visited<D: PageDevice>(
 }
 
 /// What all nodes together offer.
+///
+/// `Memory` occurs only if an allocation fails.
 pub(crate) fn offer_of_all<D: PageDevice>(
     alloc: Global,
     nodes: &mut Vec<Node<D>>,
 ) -> Result<Message, NodeFault>
     requires { AreShards nodes.old.items }
-    ensures shards { AreShards nodes.new.items }
-    ensures step { TogetherAnswered nodes.old.items Offer Sent result nodes.new.items }
-    ensures pools { KeepPools nodes.old.items nodes.new.items }
+    ensures { OffersAll nodes.old.items result nodes.new.items }
 {
-    let mut visit = Visit::offer(alloc, nodes[0].id(), nodes.len());
+    let mut visit = Visit::offer(alloc, nodes[0].id(), nodes.len())?;
     go_through(nodes, &mut visit)?;
     let Some(offer) = visit.offered() else {
         unreachable!()

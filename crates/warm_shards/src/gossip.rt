@@ -44,7 +44,10 @@ fn received<D: PageDevice>(
         join_parts(alloc, nodes, *horizon, entries.as_slice())?;
         return Ok(MessageList::of(Vec::new(alloc)));
     }
-    let visit = Visit::receive(alloc, nodes[0].id(), nodes.len(), &message)?;
+    let Ok(visit) = Visit::receive(alloc, nodes[0].id(), nodes.len(), &message) else {
+        raise_all(nodes, message.horizon());
+        return Err(NodeFault::Memory);
+    };
     visited(alloc, nodes, visit)
 }
 

@@ -1,25 +1,22 @@
 //! What a visit reads of shards: their digests, the entries of buckets, or all that they know.
 ghost use Rattle.std.specs.Prelude.{◌≡◌, ◌≢◌, ◌<◌, ◌≤◌, ℕ, [], if◌then◌else◌, nat_lt};
 ghost use Rattle.std.specs.Prelude.{IfNone, IfOk, IfSome, None, Some};
-ghost use Rattle.warm_frames.specs.declared.layout.TheConstants.{DIGEST_SIZE};
 ghost use Rattle.warm_shards.specs.VisitMessages.{final_message, first_message, without_message};
-ghost use Rattle.warm_shards.specs.Visits.{ComparesOffers, VisitState, answered, answers_of, at_each};
+ghost use Rattle.warm_shards.specs.Visits.{answered, answers_of, at_each};
 ghost use Rattle.warm_shards.specs.Visits.{begun, compares, copy_of, copy_visit, ends, next_shard};
 ghost use Rattle.warm_shards.specs.Visits.{nothing_offered, offer_in, offer_visit, offering, send_plan};
-ghost use Rattle.warm_shards.specs.VisitReads.{GathersOne, IsPageOrNone, IsReadingVisit, ReadsOne};
-ghost use Rattle.warm_shards.specs.VisitReads.{copying_visit, gathered_in};
-ghost use Rattle.warm_shards.specs.VisitReads.{reading_of, sending_visit, waits_for};
+ghost use Rattle.warm_shards.specs.VisitReads.{IsReadingVisit, ReadsOne, copying_visit};
+ghost use Rattle.warm_shards.specs.VisitReads.{reading_of, waits_for};
 
-use crate::gathering::Gathering;
-use crate::sending::{Sending, Wanted};
+use crate::gathering::BoxedGathering;
+use crate::sending::Sending;
 use std::alloc::{AllocError, Global};
 use std::marker::Model;
 use warm_devices::PageDevice;
-use warm_digest::differing;
-use warm_frames::{DIGEST_SIZE, DigestTable, Message};
+use warm_frames::{DigestTable, Message};
 use warm_gossip::{Node, NodeFault};
 use warm_history::History;
-use warm_stamps::{BUCKETS, BucketSet, ReplicaId};
+use warm_stamps::{BucketSet, ReplicaId};
 
 /// What a visit reads of shards, and what it has so far. Contracts see it as a visit.
 #[derive(Drop)]
@@ -33,7 +30,7 @@ pub(crate) struct Reading {
 #[derive(Drop)]
 pub(crate) enum Task {
     // The digests of each shard are gathered.
-    Gather(Gathering),
+    Gather(BoxedGathering),
     // The entries of buckets are sent.
     Send(Sending),
     // The histories of all shards are joined.
@@ -72,49 +69,6 @@ impl Copying {
     }
 }
 
-// The answer to digests, when all shards have offered theirs: the buckets that differ are sent, and
-// then a request for them comes last. Allocation-free.
-fn compared(alloc: Global, gathering: &Gathering, digests: &DigestTable) -> Sending
-    ensures compared { (v : VisitState) → ComparesOffers [] (compares digests.now)
-        (gathered_in gathering.now) v (sending_visit v.id v.count result) }
-    ensures page { IsPageOrNone result.after }
-{
-    let request = differing(digests, &DigestTable::of(gathering.digests));
-    // The request is a number of 64 bits.
-    let _bits = request.bits();
-    if request.is_empty() {
-        return Sending::of(alloc, request, None);
-    }
-    let want = Wanted {
-        horizon: gathering.horizon,
-        request,
-    };
-    Sending::of(alloc, request, Some(want))
-}
-
-// The next shard offers. What is sent next is returned, if it was the last one and digests wait.
-//
-// `Memory` occurs only if an allocation fails.
-fn gather<D: PageDevice>(
-    alloc: Global,
-    count: usize,
-    gathering: &mut Gathering,
-    node: &mut Node<D>,
-) -> Result<Option<Sending>, NodeFault>
-    requires { gathering.old.shard < count }
-    ensures { (id : ℕ) → GathersOne id count gathering.old node.old result gathering.new node.new }
-{
-    gathering.add(node, count)?;
-    if gathering.shard < count {
-        return Ok(None);
-    }
-    let Some(digests) = gathering.waiting else {
-        return Ok(None);
-    };
-    let sending = compared(alloc, gathering, &digests);
-    Ok(Some(sending))
-}
-
 // Runs the next errand of a task.
 //
 // `Memory` occurs only if an allocation fails.
@@ -133,7 +87,7 @@ fn enter_task<D: PageDevice>(
 {
     match task {
         Task::Gather(gathering) => {
-            if let Some(sending) = gather(alloc, count, gathering, node)? {
+            if let Some(sending) = gathering.gather(alloc, count, node)? {
                 *task = Task::Send(sending);
             }
             Ok(())
@@ -150,42 +104,48 @@ fn enter_task<D: PageDevice>(
 
 impl Reading {
     // With no digest yet.
-    fn gathers(alloc: Global, id: ReplicaId, count: usize, waiting: Option<DigestTable>) -> Reading
+    fn gathers(
+        alloc: Global,
+        id: ReplicaId,
+        count: usize,
+        waiting: Option<DigestTable>,
+    ) -> Result<Reading, AllocError>
         requires { 0 < count }
-        ensures { result ≡ begun id count (at_each count offering) nothing_offered (waits_for waiting) }
+        ensures { IfOk result (λ reading. reading
+            ≡ begun id count (at_each count offering) nothing_offered (waits_for waiting)) }
     {
-        let gathering = Gathering {
-            shard: 0,
-            horizon: 0,
-            digests: [[0; DIGEST_SIZE]; BUCKETS as usize],
-            waiting,
-        };
-        Reading {
+        let gathering = BoxedGathering::empty(alloc, waiting)?;
+        Ok(Reading {
             alloc,
             id,
             count,
             task: Task::Gather(gathering),
-        }
+        })
     }
 
-    /// Each shard offers its digests. Allocation-free.
-    pub(crate) fn offers(alloc: Global, id: ReplicaId, count: usize) -> Reading
+    /// Each shard offers its digests.
+    ///
+    /// `AllocError` occurs only if an allocation fails.
+    pub(crate) fn offers(alloc: Global, id: ReplicaId, count: usize) -> Result<Reading, AllocError>
         requires { 0 < count }
-        ensures { result ≡ offer_visit id count }
+        ensures { IfOk result (λ reading. reading ≡ offer_visit id count) }
     {
         Reading::gathers(alloc, id, count, None)
     }
 
     /// Each shard offers its digests, and these are compared: the buckets that differ are sent, and
-    /// then requested. Allocation-free.
+    /// then requested.
+    ///
+    /// `AllocError` occurs only if an allocation fails.
     pub(crate) fn compares(
         alloc: Global,
         id: ReplicaId,
         count: usize,
         digests: DigestTable,
-    ) -> Reading
+    ) -> Result<Reading, AllocError>
         requires { 0 < count }
-        ensures { result ≡ begun id count (at_each count offering) nothing_offered (compares digests) }
+        ensures { IfOk result (λ reading. reading
+            ≡ begun id count (at_each count offering) nothing_offered (compares digests)) }
     {
         Reading::gathers(alloc, id, count, Some(digests))
     }
@@ -246,6 +206,7 @@ impl Reading {
         let Task::Gather(gathering) = &self.task else {
             return None;
         };
+        let gathering = gathering.as_gathering();
         Some(Message::Digest {
             sender: self.id,
             horizon: gathering.horizon,
@@ -299,7 +260,7 @@ impl Reading {
         ensures { result ≡ final_message self.now }
     {
         match &self.task {
-            Task::Gather(gathering) => gathering.offer(self.id, self.count),
+            Task::Gather(gathering) => gathering.as_gathering().offer(self.id, self.count),
             Task::Send(sending) => sending.request(self.id),
             Task::Copy(_) => None,
         }
@@ -331,7 +292,7 @@ fn next_in(task: &Task, count: usize) -> Option<usize>
     ensures below { IfSome result (λ shard. shard < count) }
 {
     match task {
-        Task::Gather(gathering) => below(gathering.shard, count),
+        Task::Gather(gathering) => below(gathering.as_gathering().shard, count),
         Task::Send(sending) => match sending.bucket {
             Some(bucket) => Some(usize::from(bucket.get()) % count),
             None => None,

@@ -2,12 +2,12 @@
 //! errand, and enters that with one step.
 //!
 //! Whoever has the shards drives it: a loop over nodes, threads by turns, or C by its locks.
-ghost use Rattle.std.specs.Prelude.{◌≡◌, ◌≢◌, ◌<◌, ◌≤◌, false, IfOk, IfSome, None, OnErr};
+ghost use Rattle.std.specs.Prelude.{◌≡◌, ◌≢◌, ◌<◌, ◌≤◌, false, IfOk, IfSome, None};
 ghost use Rattle.warm_history.specs.Histories.{entries_of, history_of_entries_at, references_of};
 ghost use Rattle.warm_shards.specs.Shards.{IsShardCount};
 ghost use Rattle.warm_shards.specs.VisitParts.{IsReader, earlier, visit_of};
 ghost use Rattle.warm_shards.specs.declared.visit.Work.TheVariants.{Read};
-ghost use Rattle.warm_shards.specs.Visits.{HasEntered, HasEntries, absorb_visit, answers_of};
+ghost use Rattle.warm_shards.specs.Visits.{HasEntered, absorb_visit, answers_of};
 ghost use Rattle.warm_shards.specs.Visits.{copy_of, copy_visit, entries_left, give_visit};
 ghost use Rattle.warm_shards.specs.Visits.{join_visit, kept_of, next_shard, offer_in, offer_visit};
 ghost use Rattle.warm_shards.specs.Visits.{raise_visit, receive_visit, result_of};
@@ -192,19 +192,22 @@ impl Visit {
         }
     }
 
-    /// The visit in which each shard offers its digests. Allocation-free.
-    pub fn offer(alloc: Global, id: ReplicaId, count: usize) -> Visit
+    /// The visit in which each shard offers its digests.
+    ///
+    /// `AllocError` occurs only if an allocation fails.
+    pub fn offer(alloc: Global, id: ReplicaId, count: usize) -> Result<Visit, AllocError>
         requires { IsShardCount count }
-        ensures { result ≡ offer_visit id count }
+        ensures { IfOk result (λ visit. visit ≡ offer_visit id count) }
     {
-        Visit::reads(id, count, 0, count, Reading::offers(alloc, id, count))
+        let reading = Reading::offers(alloc, id, count)?;
+        Ok(Visit::reads(id, count, 0, count, reading))
     }
 
     /// The visit in which the shards receive a message: each is raised to its horizon, and then
     /// takes its entries in, sends the buckets that are requested, or offers its digests, which are
     /// compared. Entries are copied.
     ///
-    /// `AllocError` occurs only if an allocation fails, and of entries alone.
+    /// `AllocError` occurs only if an allocation fails.
     pub fn receive(
         alloc: Global,
         id: ReplicaId,
@@ -212,8 +215,7 @@ impl Visit {
         message: &Message,
     ) -> Result<Visit, AllocError>
         requires { IsShardCount count }
-        ensures begun { IfOk result (λ visit. visit ≡ receive_visit id count message.now) }
-        ensures refused { OnErr result (HasEntries message.now) }
+        ensures { IfOk result (λ visit. visit ≡ receive_visit id count message.now) }
     {
         match message {
             Message::Entries {
@@ -226,7 +228,7 @@ impl Visit {
                 digests,
                 ..
             } => {
-                let reading = Reading::compares(alloc, id, count, *digests);
+                let reading = Reading::compares(alloc, id, count, *digests)?;
                 Ok(Visit::reads(id, count, *horizon, 0, reading))
             }
             Message::Want {

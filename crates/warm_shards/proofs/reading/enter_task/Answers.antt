@@ -15,7 +15,7 @@ returns-in_err-sending-in-Gather-clause-read g c =
     let count = c.args.count in
     let n = c.args.node.now in
     let m = c.gather.new.node in
-    let h = c.gather.new.gathering in
+    let h = c.gather.new.self in
     let given = err_from_is_err_and c.from_residual.result c.from_residual.ensures.1 in
     let refused = c.in_err-sending-in-Gather.ensures id in
     subst (λ (t : Task). ReadsOne (reading_of id count t) n c.from_residual.result (gathering_visit id count h) m) (sym c.in-Gather.is)
@@ -35,7 +35,7 @@ returns-in-Some-clause-read g c =
     let count = c.args.count in
     let n = c.args.node.now in
     let m = c.gather.new.node in
-    let gathers = subst (λ (x : Option Sending). GathersOne id count c.in-Gather.gathering n (Ok x) c.gather.new.gathering m) c.in-Some.is (c.in_ok-sending-in-Gather.ensures id) in
+    let gathers = subst (λ (x : Option Sending). GathersOne id count c.in-Gather.gathering n (Ok x) c.gather.new.self m) c.in-Some.is (c.in_ok-sending-in-Gather.ensures id) in
     subst (λ (t : Task). HasReadOne (reading_of id count t) n (sending_visit id count c.in-Some.sending) m) (sym c.in-Gather.is) gathers.0
 
 pub returns-in_default-clause-read : goal.returns-in_default-clause-read
@@ -45,11 +45,11 @@ returns-in_default-clause-read g c =
     let n = c.args.node.now in
     let m = c.gather.new.node in
     let none = none_if c.in_ok-sending-in-Gather.field-0 c.in_default.not-Some in
-    let gathers = subst (λ (x : Option Sending). GathersOne id count c.in-Gather.gathering n (Ok x) c.gather.new.gathering m) none (c.in_ok-sending-in-Gather.ensures id) in
-    subst (λ (t : Task). HasReadOne (reading_of id count t) n (gathering_visit id count c.gather.new.gathering) m) (sym c.in-Gather.is) gathers.0
+    let gathers = subst (λ (x : Option Sending). GathersOne id count c.in-Gather.gathering n (Ok x) c.gather.new.self m) none (c.in_ok-sending-in-Gather.ensures id) in
+    subst (λ (t : Task). HasReadOne (reading_of id count t) n (gathering_visit id count c.gather.new.self) m) (sym c.in-Gather.is) gathers.0
 
 pub returns-in_default-clause-reading : goal.returns-in_default-clause-reading
 returns-in_default-clause-reading g c =
     let none = none_if c.in_ok-sending-in-Gather.field-0 c.in_default.not-Some in
-    let gathers = subst (λ (x : Option Sending). GathersOne c.args.id c.args.count c.in-Gather.gathering c.args.node.now (Ok x) c.gather.new.gathering c.gather.new.node) none (c.in_ok-sending-in-Gather.ensures c.args.id) in
+    let gathers = subst (λ (x : Option Sending). GathersOne c.args.id c.args.count c.in-Gather.gathering c.args.node.now (Ok x) c.gather.new.self c.gather.new.node) none (c.in_ok-sending-in-Gather.ensures c.args.id) in
     record { some = c.requires.reading.some; place = gathers.1 }

@@ -1,7 +1,7 @@
-use Rattle.std.proofs.Common.{◌≡◌, ◌<◌, ◌≤◌, ℕ, None, Option, false, sym, ap, subst, ◌∙◌, arith}
+use Rattle.std.proofs.Common.{◌≡◌, ◌<◌, ◌≤◌, ℕ, None, Option, sym, ap, subst, ◌∙◌, arith}
 use Rattle.std.specs.Prelude.{IfSome, Some, if◌then◌else◌, nat_lt}
 use Rattle.warm_shards.specs.declared.visit.Work.{Work}
-use Rattle.warm_shards.specs.declared.visit.Work.TheVariants.{Give, Raise, Read}
+use Rattle.warm_shards.specs.declared.visit.Work.TheVariants.{Give, Raise}
 use Rattle.warm_shards.specs.VisitParts.{IsVisit, visit_of}
 use Rattle.warm_shards.specs.Visits.{VisitState, next_shard}
 use Rattle.warm_shards.proofs.VisitEntries.{next_below, next_work, part_next, read_is}

@@ -10,8 +10,8 @@ offers-requires c = some_count c.args.count c.requires
 
 pub reads-requires-clause-reads : goal.reads-requires-clause-reads
 reads-requires-clause-reads c =
-    subst (λ (v : VisitState). IsReader c.args.id c.args.count v) (sym c.offers.ensures) (reader_of c.args.id c.args.count (at_each c.args.count offering) nothing_offered ends tt)
+    subst (λ (v : VisitState). IsReader c.args.id c.args.count v) (sym c.in_ok-reading.ensures) (reader_of c.args.id c.args.count (at_each c.args.count offering) nothing_offered ends tt)
 
 pub returns : goal.returns
 returns c =
-    c.reads.ensures ∙ reads_only c.args.id c.args.count 0 c.offers.result (offer_visit c.args.id c.args.count) c.offers.ensures (reader_of c.args.id c.args.count (at_each c.args.count offering) nothing_offered ends tt)
+    c.reads.ensures ∙ reads_only c.args.id c.args.count 0 c.in_ok-reading.reading (offer_visit c.args.id c.args.count) c.in_ok-reading.ensures (reader_of c.args.id c.args.count (at_each c.args.count offering) nothing_offered ends tt)

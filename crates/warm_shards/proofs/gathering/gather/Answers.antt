@@ -4,7 +4,7 @@ use Rattle.warm_gossip.specs.declared.fault.NodeFault.{NodeFault}
 use Rattle.warm_shards.specs.declared.sending.Sending.{Sending}
 use Rattle.warm_shards.specs.VisitReads.{GathersOne}
 use Rattle.warm_shards.proofs.VisitReadsTasks.{before_none, before_some, gathers_last, gathers_next, gathers_refused, none_if}
-use Rattle.warm_shards.proofs.reading.gather.Goals as goal
+use Rattle.warm_shards.proofs.gathering.gather.Goals as goal
 
 pub returns-in_err-add : goal.returns-in_err-add
 returns-in_err-add g c id =
