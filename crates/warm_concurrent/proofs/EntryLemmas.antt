@@ -29,7 +29,7 @@ compared_goes : (u w : VisitState) (rest : List Errand) (after : After) (made : 
 compared_goes u w [] (compares digests) (gathered horizon table) well is = ap (λ (x : VisitState). x.stopped) is.3
 compared_goes u w rest after made well is = ap (λ (x : VisitState). x.stopped) is ∙ well
 
-not_both : (w : VisitState) → w.stopped ≡ false → w.stopped ≡ true → ⊥
+pub not_both : (w : VisitState) → w.stopped ≡ false → w.stopped ≡ true → ⊥
 not_both w goes stops = let no : false ≡ true = sym goes ∙ stops in absurd (cc)
 
 takes_stop : (v w : VisitState) (i : ℕ) (ask : Ask) (rest : List Errand) (said : Said)
