@@ -1,5 +1,4 @@
 -- The laws of shared shards.
-use Rattle.std.specs.Prelude.{slice_index_or}
 use Rattle.std.proofs.lemmas.List.{length-set}
 use Rattle.std.proofs.Common.{◌≡◌, ◌⊎◌, inl, inr, ℕ, zero, suc, ◌<◌, ◌≤◌, List, [], ◌∷◌, ◌++◌, length, refl, sym, ap, subst, ◌∙◌, arith, append-nil, append_assoc}
 use mathlib.Core.List.{IsPrefix}
@@ -8,24 +7,21 @@ use Rattle.warm_history.specs.Histories.{history, references_of}
 use Rattle.warm_history.proofs.JoinLemmas.{history_first, history_second}
 use Rattle.warm_turn.specs.CallHistories.{as_spent}
 use Rattle.warm_turn.proofs.PassLemmas.{Extended-called, Widened-joined}
-use Rattle.warm_frames.specs.declared.message.Message.{Message}
 use Rattle.warm_machine.specs.declared.operation.Operation.{Operation}
 use Rattle.warm_machine.specs.Runs.{Runs}
 use Rattle.warm_shards.specs.Visits.{Errand, Said, VisitState}
 use Rattle.warm_shard_machine.specs.declared.calls.ShardCall.{ShardCall}
-use Rattle.warm_shard_machine.specs.declared.calls.ShardCall.TheVariants.{Answer, CopyHistory, Enter, Offer}
+use Rattle.warm_shard_machine.specs.declared.calls.ShardCall.TheVariants.{Enter}
 use Rattle.warm_shard_machine.specs.declared.calls.ShardReply.{ShardReply}
-use Rattle.warm_shard_machine.specs.declared.calls.ShardReply.TheVariants.{Answers, Copied, Done, Entered, Kept, Refused}
+use Rattle.warm_shard_machine.specs.declared.calls.ShardReply.TheVariants.{Done, Entered, Kept, Refused}
 use Rattle.warm_concurrent.specs.declared.fault.SharedFault.{SharedFault}
 use Rattle.warm_concurrent.specs.declared.fault.SharedFault.TheVariants.{Node, TurnsSpent}
-use Rattle.warm_concurrent.specs.Answering.{AnswersPart, Offers, offer_at, offer_reply}
 use Rattle.warm_concurrent.specs.Attached.{KeepsOtherPasses, Known, ShardPass, known_of, no_pass, shard_pass}
 use Rattle.warm_concurrent.specs.Clauses.{CallFails, Got}
-use Rattle.warm_concurrent.specs.Copying.{GivesCopy, no_history}
 use Rattle.warm_concurrent.specs.Laws.{OnlySeesMore, OverCalls, SeesMore, TogetherAreOfGiven, all_of, held_by}
 use Rattle.warm_shard_machine.specs.ShardSteps.{ShardStep}
 use Rattle.warm_concurrent.specs.Visiting.{EntersByTurn, GoesByTurns, Visiting, visiting}
-use Rattle.warm_concurrent.specs.Whole.{Does, First, RaisesShard, TakesPart, part_call}
+use Rattle.warm_concurrent.specs.Whole.{Does, First, RaisesShard}
 use Rattle.warm_shards.proofs.Places.{at_each}
 
 pub together_are_of_given : TogetherAreOfGiven
@@ -97,15 +93,6 @@ module _ (P : ShardPass → ShardPass → Type 0) (self : (p : ShardPass) → P 
       (one_so s.passes y.passes i entry.0 entry.2.1 (got (shard_pass s.passes i) (shard_pass y.passes i) (Enter (length s.passes) i s.visit) (Entered y.visit) entry.2.0))
       (visit_so y t os runs)
 
-  -- a shard that has none of the requested buckets was not called
-  answer_so : (count request : ℕ) (messages : List Message) (i : ℕ) (old new : ShardPass)
-      → AnswersPart count request messages i old new → P old new
-  answer_so count request messages i old new (part, own, none, some) = cases part refl
-    where
-      cases : (p : ℕ) → part ≡ p → P old new
-      cases zero is = same_so old new (none is).1
-      cases (suc p) is = got old new (Answer part) (Answers messages) (some (λ zero_part. let no : suc p ≡ 0 = sym is ∙ zero_part in absurd (omega (arith, no))))
-
   -- a call that was refused, or found no ticket
   fails_so : (old new : List ShardPass) (i : ℕ) (c : ShardCall) (why : SharedFault) → i < length old
       → CallFails old i c why new → EachIsSo old new
@@ -122,11 +109,7 @@ module _ (P : ShardPass → ShardPass → Type 0) (self : (p : ShardPass) → P 
     refused = λ old new i call why lt fails. from old new (fails_so old new i call why lt fails);
     visited = λ old new v w goes. from old new (visit_so (visiting v old) (visiting w new) goes.0 goes.1);
     raised = λ old new k time so. from old new (firsts_so (RaisesShard time) (λ i p q r. got p q _ (Kept r.0) r.1) k old new so);
-    taken = λ old new k message so. from old new (firsts_so (TakesPart (length old) message) (λ i p q r. got p q (part_call (length old) message i) Done r) k old new so);
     done = λ old new k call so. from old new (firsts_so (Does call) (λ i p q r. got p q call Done r) k old new so);
-    offered = λ old new offers k so. from old new (firsts_so (λ i. Offers (offer_at offers i) i) (λ i p q r. got p q Offer (offer_reply (offer_at offers i)) r) k old new so.1);
-    answered = λ old new request parts k so. from old new (firsts_so (λ i. AnswersPart (length old) request (slice_index_or parts i []) i) (λ i. answer_so (length old) request (slice_index_or parts i []) i) k old new so.1);
-    copied = λ old new copies k so. from old new (firsts_so (λ i. GivesCopy (slice_index_or copies i no_history) i) (λ i p q r. got p q CopyHistory (Copied (slice_index_or copies i no_history)) r) k old new so.1);
   }
 
 -- ---- what a thread has seen

@@ -3,11 +3,10 @@ pub mod PassLemmas
 pub mod ShardNumberLemmas
 pub mod AttachingLemmas
 pub mod WholeCallLemmas
-pub mod GatheredOfferLemmas
+pub mod FirstGaveLemmas
 pub mod CopyLemmas
 pub mod RaisingLemmas
 pub mod EntryLemmas
-pub mod RequestPartLemmas
 pub mod LawLemmas
 pub mod CloseRightLemmas
 pub mod SendLemmas
@@ -16,6 +15,8 @@ pub mod LookLemmas
 pub mod ReferenceSetLemmas
 pub mod GivenLemmas
 pub mod VisitedLemmas
+pub mod ReadLemmas
+pub mod RaisedLemmas
 pub mod CallsGivenLemmas
 pub mod ClosedShardLemmas
 pub mod TwoThreadBatchLemmas

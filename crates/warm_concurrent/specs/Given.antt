@@ -1,5 +1,5 @@
 -- What shards were given, all together, and what a thread's calls gave them.
-use Rattle.std.specs.Prelude.{◌≡◌, ℕ, zero, suc, ◌<◌, List, [], ◌∷◌, ◌++◌, length, map, Some, Ok}
+use Rattle.std.specs.Prelude.{◌≡◌, ◌⊎◌, ℕ, zero, suc, ◌<◌, List, [], ◌∷◌, ◌++◌, length, map, Some, Ok}
 use Rattle.std.specs.Prelude.{Result, slice_index_or}
 use mathlib.Core.Option.{some}
 use mathlib.Core.List.{IsPrefix}
@@ -22,8 +22,8 @@ use Rattle.warm_peer.specs.Answers.{refs_in}
 use Rattle.warm_gossip.specs.State.{NodeState}
 use Rattle.warm_gossip.specs.Victims.{IsEvicted}
 use Rattle.warm_shards.specs.Shards.{AreShards, IsShardCount, of_first_shards, shard_at, whole}
-use Rattle.warm_shards.specs.Visits.{absorb_visit}
-use Rattle.warm_concurrent.specs.declared.answering.Offered.{Offered}
+use Rattle.warm_shards.specs.Visits.{VisitState, absorb_visit, copy_visit, join_visit, offer_visit}
+use Rattle.warm_shards.specs.Visits.{receive_visit}
 use Rattle.warm_shard_machine.specs.declared.calls.ShardCall.{ShardCall}
 use Rattle.warm_shard_machine.specs.declared.calls.ShardCall.TheVariants.{Absorb, Raise, Pin, Look}
 use Rattle.warm_shard_machine.specs.declared.calls.ShardCall.TheVariants.{Change, PinFilled}
@@ -33,23 +33,17 @@ use Rattle.warm_shard_machine.specs.declared.calls.ShardReply.{ShardReply}
 use Rattle.warm_shard_machine.specs.declared.calls.ShardReply.TheVariants.{Done, Entered, Kept}
 use Rattle.warm_shard_machine.specs.declared.calls.ShardReply.TheVariants.{Page}
 use Rattle.warm_concurrent.specs.declared.fault.SharedFault.{SharedFault}
-use Rattle.warm_concurrent.specs.declared.gossip.NotReceived.{NotReceived}
-use Rattle.warm_concurrent.specs.declared.gossip.NotReceived.TheVariants.{Raising, Taking}
-use Rattle.warm_concurrent.specs.Answering.{AnswersFirst, OffersFirst}
 use Rattle.warm_concurrent.specs.Attached.{Known, ShardPass, ShardTurn, known_of, replica_of}
 use Rattle.warm_concurrent.specs.Attached.{shard_turn}
 use Rattle.warm_concurrent.specs.Clauses.{AnsweredByShard, CallFails}
-use Rattle.warm_concurrent.specs.Copying.{CopiesFirst}
-use Rattle.warm_concurrent.specs.Gossip.{ReceiveStops, ShardsReceive}
 use Rattle.warm_concurrent.specs.Laws.{all_of}
 use Rattle.warm_concurrent.specs.Opening.{AreClosed, AreFirst, AreHalved, PassesAreJoined, AreSplit}
 use Rattle.warm_concurrent.specs.Opening.{openings, shards_over}
 use Rattle.warm_shard_machine.specs.Entering.{gave_entry}
 use Rattle.warm_shard_machine.specs.Laws.{Log}
 use Rattle.warm_shard_machine.specs.ShardSteps.{ShardState, ShardStep}
-use Rattle.warm_concurrent.specs.Visiting.{IsGoneThrough, VisitFails}
-use Rattle.warm_concurrent.specs.Whole.{DoneFirst, JoinFails, JoinsFirst}
-use Rattle.warm_concurrent.specs.Whole.{RaiseFails, RaisesFirst}
+use Rattle.warm_concurrent.specs.Visiting.{GoesByTurns, IsGoneThrough, VisitFails}
+use Rattle.warm_concurrent.specs.Whole.{DoneFirst, RaiseFails, RaisesFirst}
 
 -- Sets of references
 
@@ -145,18 +139,19 @@ abbrev pub given_to_first : ℕ → ℕ → ReferenceSet → ReferenceSet
 given_to_first count zero S = set_of_list []
 given_to_first count (suc k) S = of_first_shards count (suc k) S
 
--- how many of `count` shards have their part of a message whose receipt stopped for this reason
-abbrev pub shards_given : ℕ → NotReceived → ℕ
-shards_given count (Raising at) = at.shard
-shards_given count (Taking at) = at.shard
-shards_given count why = count
+-- What a visit gave that first brings all shards the horizon of S, and then each its part, and that
+-- stopped at shard k: the horizon, to the shards before; or the horizon, to all, and their parts, to
+-- the shards before.
+abbrev pub HasGivenUpTo : ℕ → ReferenceSet → List ShardPass → List ShardPass → Type 0
+HasGivenUpTo k S old new = HasGiven (given_to_first (length old) k (only_horizon S.horizon)) old new
+    ⊎ HasGiven (only_horizon S.horizon ∪ given_to_first (length old) k S) old new
 
 -- What a thread's call gave: the batch that it absorbed, the horizon that it raised, or the
 -- references and the horizon of the message that it received, or of the history that it joined; of
--- each of these that stopped at a shard, just the parts of the shards before; and what any other
--- call of one shard gave that one. A call of one shard that was refused gave nothing, and neither did
--- any other call of several shards. One of these that stops at a shard is such a call of the shards
--- before, and one that is refused.
+-- each of these that stopped at a shard, just the parts of the shards before, and of the last two the
+-- horizon; and what any other call of one shard gave that one. A call of one shard that was refused
+-- gave nothing, and neither did any other call of several shards, however far it went. One of these
+-- that is no visit and stops at a shard is such a call of the shards before, and one that is refused.
 pub record CallsAreGiven (old new : List ShardPass) : Type 0 where
   pub absorbed : (id : ℕ) (batch : List Reference)
       → IsGoneThrough (absorb_visit id (length old) batch) old new
@@ -168,27 +163,26 @@ pub record CallsAreGiven (old new : List ShardPass) : Type 0 where
       → HasGiven (only_horizon time) old new
   pub raise_stopped : (time k : ℕ) (why : SharedFault) → RaiseFails time k why old new
       → HasGiven (given_to_first (length old) k (only_horizon time)) old new
-  pub received : (message : Message) (answers : List Message)
-      → ShardsReceive message answers old new
+  pub received : (id : ℕ) (message : Message)
+      → IsGoneThrough (receive_visit id (length old) message) old new
       → HasGiven (refs_in message) old new
-  pub receipt_stopped : (message : Message) (why : NotReceived) → ReceiveStops message why old new
-      → HasGiven (given_to_first (length old) (shards_given (length old) why) (refs_in message))
-      old new
-  pub joined : (h : HistoryView) → JoinsFirst h (length old) old new
+  pub receipt_stopped : (id : ℕ) (message : Message) (k : ℕ) (why : SharedFault)
+      → VisitFails (receive_visit id (length old) message) k why old new
+      → HasGivenUpTo k (refs_in message) old new
+  pub joined : (id : ℕ) (h : HistoryView) → IsGoneThrough (join_visit id (length old) h) old new
       → HasGiven (references_of h) old new
-  pub join_stopped : (h : HistoryView) (k : ℕ) (why : SharedFault) → JoinFails h k why old new
-      → HasGiven (given_to_first (length old) k (references_of h)) old new
+  pub join_stopped : (id : ℕ) (h : HistoryView) (k : ℕ) (why : SharedFault)
+      → VisitFails (join_visit id (length old) h) k why old new
+      → HasGivenUpTo k (references_of h) old new
   pub called : (i : ℕ) (call : ShardCall) (reply : ShardReply) → i < length old
       → AnsweredByShard old i call reply new → HasGiven (gave_call call reply) old new
   pub refused : (i : ℕ) (call : ShardCall) (why : SharedFault) → i < length old
       → CallFails old i call why new → HasGivenNothing old new
   pub done : (call : ShardCall) (k : ℕ) → gave_call call Done ≡ set_of_list []
       → DoneFirst call k old new → HasGivenNothing old new
-  pub offered : (offers : List Offered) (k : ℕ) → OffersFirst offers k old new
+  pub offered : (id : ℕ) (w : VisitState) → GoesByTurns (offer_visit id (length old)) old w new
       → HasGivenNothing old new
-  pub answered : (request : ℕ) (parts : List (List Message)) (k : ℕ)
-      → AnswersFirst request parts k old new → HasGivenNothing old new
-  pub copied : (copies : List HistoryView) (k : ℕ) → CopiesFirst copies k old new
+  pub copied : (id : ℕ) (w : VisitState) → GoesByTurns (copy_visit id (length old)) old w new
       → HasGivenNothing old new
 
 -- each call of a thread, over any number of shards, gives what `CallsAreGiven` says

@@ -7,7 +7,6 @@ pub mod Whole
 pub mod Laws
 pub mod Rights
 pub mod Given
-pub mod Answering
 pub mod Raising
 pub mod Copying
 pub mod Retiring

@@ -84,3 +84,8 @@ pub record VisitStops (v w : VisitState) (k : ℕ) (why : SharedFault) (old new 
 abbrev pub VisitFails : VisitState → ℕ → SharedFault → List ShardPass → List ShardPass → Type 0
 VisitFails v k why old new = ((k ≡ 0) × (why ≡ Node Memory) × (new ≡ old))
     ⊎ ((w : VisitState) × VisitStops v w k why old new)
+
+-- The visit failed so; or all its errands were run, and no memory was left for what is made of it.
+abbrev pub VisitOrEndFails : VisitState → ℕ → SharedFault → List ShardPass → List ShardPass → Type 0
+VisitOrEndFails v k why old new = VisitFails v k why old new
+    ⊎ ((k ≡ length old) × (why ≡ Node Memory) × IsGoneThrough v old new)

@@ -1,7 +1,6 @@
 //! One replica in shards that threads share.
 #![tactic(auto)]
 
-mod answering;
 mod attaching;
 mod copying;
 mod engine_calls;
@@ -10,7 +9,6 @@ mod filling;
 mod flushing;
 mod gossip;
 mod history_calls;
-mod joining;
 pub mod laws;
 mod looking;
 mod pool_calls;
@@ -22,7 +20,6 @@ mod writing;
 
 pub use attaching::{NotClosed, NotDetached};
 pub use fault::SharedFault;
-pub use gossip::NotReceived;
 pub use retiring::NotRetired;
 pub use shared::{Attached, SharedShards};
 pub use sharing::Sharing;

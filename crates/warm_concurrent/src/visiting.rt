@@ -39,6 +39,17 @@ impl Stopped {
             shard: 0,
         }
     }
+
+    // No memory was left for what is made of a visit that went through this many shards.
+    pub(crate) fn after_all(count: usize) -> Stopped
+        ensures shard { result.shard ≡ count }
+        ensures fault { result.fault ≡ Node Memory }
+    {
+        Stopped {
+            fault: SharedFault::Node(NodeFault::Memory),
+            shard: count,
+        }
+    }
 }
 
 // Lets a visit into the shard that it names.
