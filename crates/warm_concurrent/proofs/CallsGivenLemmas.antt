@@ -24,7 +24,7 @@ use Rattle.warm_concurrent.specs.declared.fault.SharedFault.{SharedFault}
 use Rattle.warm_concurrent.specs.declared.fault.SharedFault.TheVariants.{Node, TurnsSpent}
 use Rattle.warm_concurrent.specs.Attached.{ShardPass, shard_pass}
 use Rattle.warm_concurrent.specs.Clauses.{AnsweredByShard, CallFails}
-use Rattle.warm_concurrent.specs.Given.{HasGiven, HasGivenNothing, HasGivenUpTo, SameGiven, ThreadsGive, gave_call, given_to_first, only_horizon}
+use Rattle.warm_concurrent.specs.Given.{HasGiven, HasGivenNothing, HasGivenUpTo, SameGiven, ThreadsGive, gave_call, gave_together, given_to_first, only_horizon}
 use Rattle.warm_concurrent.specs.Visiting.{EntryFails, IsGoneThrough, VisitFails, VisitStops, as_stopped, visiting}
 use Rattle.warm_concurrent.specs.Whole.{Does, RaiseFails}
 use Rattle.warm_concurrent.proofs.GivenLemmas.{EachGives, Gives, all_given, as_given, given_as, given_by_sum, given_none, given_then, gives_as, gives_called, gives_none, gives_spent, nothing, one_nothing, other_same, raised_each}
@@ -383,7 +383,7 @@ reads_up_to time rest k why old new v w count asks stops r =
     let none : EachGives nothing n mid new = subst (λ l. EachGives nothing l mid new) risen.count (entry_nothing w k why mid new stops.there stops.fails) in
     let all = given_as (λ i. only_horizon time ∪ set_of_list []) (λ i. only_horizon time) n old new (λ i. union_none (only_horizon time)) (given_then (λ i. only_horizon time) nothing n old mid new risen none) in
     let gave = all_given (only_horizon time) old new count all in
-    (gave.0, gave.1, same_trans _ (only_horizon time) (only_horizon time ∪ given_to_first n k (only_horizon time)) gave.2 (horizon_up_to n k time))
+    (gave.0, gave.1, same_trans (gave_together gave.0) (only_horizon time) (only_horizon time ∪ given_to_first n k (only_horizon time)) gave.2 (horizon_up_to n k time))
 
 -- a visit that stops while it raises gave the horizon to the shards before
 risen_up_to : (time k j : ℕ) (why : SharedFault) (old new : List ShardPass) (v w : VisitState)

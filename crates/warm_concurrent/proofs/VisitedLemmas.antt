@@ -24,7 +24,7 @@ use Rattle.warm_concurrent.proofs.WholeCallLemmas.{none_first, one_first, same_f
 -- ---- refusals
 
 -- a visit that was refused nothing at the end was so before
-never_refused : (s t : Visiting) (es : List (Operation Errand Said)) → Runs EntersByTurn s es t
+pub never_refused : (s t : Visiting) (es : List (Operation Errand Said)) → Runs EntersByTurn s es t
     → t.visit.stopped ≡ false → s.visit.stopped ≡ false
 never_refused s t [] runs well = ap (λ (x : Visiting). x.visit.stopped) runs ∙ well
 never_refused s t (o ∷ os) (y, entry, runs) well = entry.1.2.ready
@@ -55,7 +55,7 @@ pub record Gave (i : ℕ) (S : ReferenceSet) (rest : List Errand) (s y : Visitin
   pub gives : Gives S (shard_pass s.passes i) (shard_pass y.passes i)
   pub others : KeepsOtherPasses s.passes i y.passes
 
-turn_gives : (s y : Visiting) (i : ℕ) (S : ReferenceSet) (rest : List Errand) (e : Errand)
+pub turn_gives : (s y : Visiting) (i : ℕ) (S : ReferenceSet) (rest : List Errand) (e : Errand)
     (said : Said) → s.visit.plan ≡ at_shard i (giving S) ∷ rest → EntersByTurn s e said y
     → y.visit.stopped ≡ false → Gave i S rest s y
 turn_gives s y i S rest e said plan (lt, (n, m, enters), answered) well =
