@@ -110,6 +110,13 @@ module _ (old new : List ShardPass) (total shard : ℕ) (v : VisitState) (c : Sh
 
 -- ---- several entries
 
+-- what begins as a visit of these shards is one
+pub visits : (total count : ℕ) (v w : VisitState) → count ≡ total → v ≡ w → w.count ≡ count
+    → AreOwnErrands count w.plan → w.stopped ≡ false → IsVisitOf total v
+visits total count v w same is of own well =
+    let begins : IsVisitOf count w = record { count = of; own = own; well = well } in
+    subst (IsVisitOf total) (sym is) (subst (λ n. IsVisitOf n w) same begins)
+
 -- a visit that goes on is one of these shards
 pub still_visits : (total : ℕ) (v w : VisitState) (old new : List ShardPass) → IsShardCount total
     → IsVisitOf total v → RunsErrand v w old new → IsVisitOf total w
