@@ -3,12 +3,14 @@ use Rattle.std.proofs.Common.{◌≡◌, ℕ, ◌<◌, Bool, true, false, List, 
 use Rattle.std.specs.Prelude.{Some, None}
 use Rattle.warm_machine.specs.declared.operation.Operation.{Operation}
 use Rattle.warm_machine.specs.Runs.{Runs, operation}
+use Rattle.warm_frames.specs.declared.message.Message.{Message}
+use Rattle.warm_frames.specs.declared.message.Message.TheVariants.{Digest, Entries, Want}
 use Rattle.warm_gossip.specs.declared.fault.NodeFault.{NodeFault}
 use Rattle.warm_gossip.specs.declared.fault.NodeFault.TheVariants.{Memory}
 use Rattle.warm_gossip.specs.State.{NodeState}
 use Rattle.warm_shards.specs.Shards.{IsShardCount}
 use Rattle.warm_shards.specs.VisitLaws.{AreOwnErrands, EntersAny}
-use Rattle.warm_shards.specs.Visits.{After, Ask, ComparesOffers, Errand, HasEntered, Made, Said, Takes, VisitState, compares, copied, copying, gathered, given, giving, next_shard, offered, offering, refused, result_of, sending, sent, shard_next}
+use Rattle.warm_shards.specs.Visits.{After, Ask, ComparesOffers, Errand, HasEntered, Made, Said, Takes, VisitState, compares, copied, copying, gathered, given, giving, next_shard, offered, offering, receive_visit, refused, result_of, sending, sent, shard_next}
 use Rattle.warm_shards.proofs.VisitErrands.{errands_are_own}
 use Rattle.warm_shards.proofs.VisitLemmas.{named}
 use Rattle.warm_shard_machine.specs.Entering.{IsNextAt, IsOnward}
@@ -116,6 +118,18 @@ pub visits : (total count : ℕ) (v w : VisitState) → count ≡ total → v �
 visits total count v w same is of own well =
     let begins : IsVisitOf count w = record { count = of; own = own; well = well } in
     subst (IsVisitOf total) (sym is) (subst (λ n. IsVisitOf n w) same begins)
+
+pub received_count : (id count : ℕ) (message : Message)
+    → (receive_visit id count message).count ≡ count
+received_count id count (Entries sender horizon entries) = refl
+received_count id count (Digest sender horizon digests) = refl
+received_count id count (Want sender horizon request) = refl
+
+pub received_well : (id count : ℕ) (message : Message)
+    → (receive_visit id count message).stopped ≡ false
+received_well id count (Entries sender horizon entries) = refl
+received_well id count (Digest sender horizon digests) = refl
+received_well id count (Want sender horizon request) = refl
 
 -- a visit that goes on is one of these shards
 pub still_visits : (total : ℕ) (v w : VisitState) (old new : List ShardPass) → IsShardCount total

@@ -9,12 +9,12 @@ use Rattle.warm_machine.specs.declared.operation.Operation.{Operation}
 use Rattle.warm_machine.specs.Runs.{Runs}
 use Rattle.warm_peer.specs.Answers.{requested_buckets}
 use Rattle.warm_shards.specs.VisitLaws.{AreOwnErrands, EntersAny, IsOwnAsk}
-use Rattle.warm_shards.specs.Visits.{After, Ask, ComparesOffers, Errand, GathersOffer, Made, Said, Takes, VisitState, at_each, at_shard, compares, copied, copy_of, copying, ends, gathered, given, giving, goes_on, joined, offer_in, offered, offering, onward, refused, sending, sent, with_history}
+use Rattle.warm_shards.specs.Visits.{After, Ask, ComparesOffers, Errand, GathersOffer, Made, Said, Takes, VisitState, at_each, at_shard, compares, copied, copy_of, copy_visit, copying, ends, gathered, given, giving, goes_on, joined, offer_in, offer_visit, offered, offering, onward, refused, sending, sent, with_history}
 use Rattle.warm_shard_machine.specs.Entering.{gave_ask, gave_entry, gave_first}
 use Rattle.warm_shard_machine.specs.declared.calls.ShardCall.TheVariants.{Enter}
 use Rattle.warm_shard_machine.specs.declared.calls.ShardReply.TheVariants.{Entered}
-use Rattle.warm_concurrent.specs.Attached.{shard_pass}
-use Rattle.warm_concurrent.specs.Visiting.{EntersByTurn, Visiting}
+use Rattle.warm_concurrent.specs.Attached.{ShardPass, shard_pass}
+use Rattle.warm_concurrent.specs.Visiting.{EntersByTurn, GoneThrough, Visiting, visiting}
 use Rattle.warm_concurrent.proofs.GivenLemmas.{EachGives, given_none, gives_as, gives_called, none_twice, nothing, one_nothing}
 
 -- ---- what it gave
@@ -82,7 +82,7 @@ reads_nothing s t (o ∷ os) none (y, (lt, (n, m, enters), answered), runs) =
 -- ---- what it made
 
 -- what each entry keeps is kept
-pub keeps_on : (P : VisitState → Type 0)
+keeps_on : (P : VisitState → Type 0)
     → ((v w : VisitState) (e : Errand) (said : Said) → P v → EntersAny v e said w → P w)
     → (s t : Visiting) (es : List (Operation Errand Said)) → P s.visit → Runs EntersByTurn s es t
     → P t.visit
@@ -91,7 +91,7 @@ keeps_on P step s t (o ∷ os) has (y, entry, runs) =
     keeps_on P step y t os (step s.visit y.visit o.call o.reply has entry.1) runs
 
 -- each of these errands asks this
-abbrev pub AllAsk : Ask → List Errand → Type 0
+abbrev AllAsk : Ask → List Errand → Type 0
 AllAsk ask [] = Unit {0}
 AllAsk ask (e ∷ es) = (e.ask ≡ ask) × AllAsk ask es
 
@@ -99,7 +99,7 @@ all_from : (ask : Ask) (first n : ℕ) → AllAsk ask (map (λ i. at_shard i ask
 all_from ask first zero = tt
 all_from ask first (suc n) = (refl, all_from ask (first + 1) n)
 
-pub all_each : (ask : Ask) (count : ℕ) → AllAsk ask (at_each count ask)
+all_each : (ask : Ask) (count : ℕ) → AllAsk ask (at_each count ask)
 all_each ask count = all_from ask 0 count
 
 -- a copy
@@ -107,7 +107,7 @@ abbrev IsJoined : Made → Type 0
 IsJoined (joined h) = Unit {0}
 IsJoined made = ⊥
 
-abbrev pub IsCopying : VisitState → Type 0
+abbrev IsCopying : VisitState → Type 0
 IsCopying v = AllAsk copying v.plan × IsJoined v.made
 
 joined_on : (made : Made) (h : HistoryView) → IsJoined made → IsJoined (with_history made h)
@@ -125,25 +125,31 @@ copies_taken v w i (giving S) rest said is plan all made takes = let no : giving
 copies_taken v w i offering rest said is plan all made takes = let no : offering ≡ copying = is in absurd (cc)
 copies_taken v w i (sending bucket after) rest said is plan all made takes = let no : sending bucket after ≡ copying = is in absurd (cc)
 
-pub copies_on : (v w : VisitState) (e : Errand) (said : Said) → IsCopying v → EntersAny v e said w
+copies_on : (v w : VisitState) (e : Errand) (said : Said) → IsCopying v → EntersAny v e said w
     → IsCopying w
 copies_on v w e said (plan, made) (n, m, enters) =
     let all : AllAsk copying (e ∷ enters.rest) = subst (AllAsk copying) enters.next plan in
     copies_taken v w e.shard e.ask enters.rest said all.0 plan all.1 made enters.takes
 
-pub some_copy : (made : Made) → IsJoined made → None ≡ copy_of made → ⊥
+some_copy : (made : Made) → IsJoined made → None ≡ copy_of made → ⊥
 some_copy (joined h) is none = absurd (cc)
 some_copy made is none = absurd is
+
+pub copied_some : (id count : ℕ) (v w : VisitState) (old new : List ShardPass)
+    → v ≡ copy_visit id count → GoneThrough v w old new → None ≡ copy_of w.made → ⊥
+copied_some id count v w old new is gone none =
+    let begins : IsCopying v = subst IsCopying (sym is) (all_each copying count, tt) in
+    some_copy w.made (keeps_on IsCopying copies_on (visiting v old) (visiting w new) gone.goes.0 begins gone.goes.1).1 none
 
 -- an offer
 abbrev IsGathered : Made → Type 0
 IsGathered (gathered horizon table) = Unit {0}
 IsGathered made = ⊥
 
-pub record IsOffering (v : VisitState) : Type 0 where
-  pub plan : AllAsk offering v.plan
-  pub made : IsGathered v.made
-  pub after : v.after ≡ ends
+record IsOffering (v : VisitState) : Type 0 where
+  plan : AllAsk offering v.plan
+  made : IsGathered v.made
+  after : v.after ≡ ends
 
 gathers_on : (count i horizon : ℕ) (table : List (List ℕ)) (before after : Made)
     → GathersOffer count i horizon table before after → IsGathered after
@@ -168,15 +174,21 @@ offers_taken v w i (giving S) rest said is so all takes = let no : giving S ≡ 
 offers_taken v w i copying rest said is so all takes = let no : copying ≡ offering = is in absurd (cc)
 offers_taken v w i (sending bucket after) rest said is so all takes = let no : sending bucket after ≡ offering = is in absurd (cc)
 
-pub offers_on : (v w : VisitState) (e : Errand) (said : Said) → IsOffering v → EntersAny v e said w
+offers_on : (v w : VisitState) (e : Errand) (said : Said) → IsOffering v → EntersAny v e said w
     → IsOffering w
 offers_on v w e said so (n, m, enters) =
     let all : AllAsk offering (e ∷ enters.rest) = subst (AllAsk offering) enters.next so.plan in
     offers_taken v w e.shard e.ask enters.rest said all.0 so all.1 enters.takes
 
-pub some_offer : (id : ℕ) (made : Made) → IsGathered made → None ≡ offer_in id made → ⊥
+some_offer : (id : ℕ) (made : Made) → IsGathered made → None ≡ offer_in id made → ⊥
 some_offer id (gathered horizon table) is none = absurd (cc)
 some_offer id made is none = absurd is
+
+pub offered_some : (id count : ℕ) (v w : VisitState) (old new : List ShardPass)
+    → v ≡ offer_visit id count → GoneThrough v w old new → None ≡ offer_in w.id w.made → ⊥
+offered_some id count v w old new is gone none =
+    let begins : IsOffering v = subst IsOffering (sym is) (record { plan = all_each offering count; made = tt; after = refl }) in
+    some_offer w.id w.made (keeps_on IsOffering offers_on (visiting v old) (visiting w new) gone.goes.0 begins gone.goes.1).made none
 
 -- ---- whose pages
 

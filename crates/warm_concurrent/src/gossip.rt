@@ -201,12 +201,13 @@ impl<D: PageDevice + Send> SharedShards<D> {
             at.shard at.fault attached.old.passes attached.new.passes) }
         ensures pins { attached.new.pins ≡ attached.old.pins }
     {
-        let Ok(visit) = Visit::receive(alloc, self.id(), self.count(), message) else {
+        let count = self.count();
+        let Ok(visit) = Visit::receive(alloc, self.id(), count, message) else {
             return Err(Stopped::before_all());
         };
         let after = self.go_through(rt, attached, visit)?;
         let Ok(answers) = after.into_answers(alloc) else {
-            return Err(Stopped::after_all(self.count()));
+            return Err(Stopped::after_all(count));
         };
         Ok(answers)
     }

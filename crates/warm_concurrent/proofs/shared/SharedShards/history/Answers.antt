@@ -1,0 +1,28 @@
+use Rattle.std.proofs.Common.{◌≡◌, length, refl, sym, subst, ◌∙◌}
+use Rattle.warm_shards.specs.Visits.{VisitState, copy_visit, copying}
+use Rattle.warm_concurrent.specs.Attached.{replica_of}
+use Rattle.warm_concurrent.specs.Visiting.{GoneThrough}
+use Rattle.warm_concurrent.proofs.EntryLemmas.{visits}
+use Rattle.warm_concurrent.proofs.ReadLemmas.{copied_some, own_each}
+use Rattle.warm_concurrent.proofs.shared.SharedShards.history.Goals as goal
+
+pub go_through-requires-clause-visit : goal.go_through-requires-clause-visit
+go_through-requires-clause-visit g c κs within =
+    let id = c.id.result in
+    let n = c.count.result in
+    visits (length c.args.self.now) n c.copy-visit.result (copy_visit id n) c.count.ensures.value c.copy-visit.ensures refl (own_each n copying (λ i. tt)) refl
+
+pub unreachable-requires : goal.unreachable-requires
+unreachable-requires g c =
+    let old = c.args.attached.now.passes in
+    let new = c.go_through.new.attached.passes in
+    copied_some c.id.result c.count.result c.copy-visit.result c.in_ok-after.after old new c.copy-visit.ensures c.in_ok-after.ensures.gone (sym c.in_default.is ∙ c.into_copy.ensures)
+
+pub returns-clause-copied : goal.returns-clause-copied
+returns-clause-copied g c =
+    let old = c.args.attached.now.passes in
+    let new = c.go_through.new.attached.passes in
+    let after = c.in_ok-after.after in
+    let long : c.count.result ≡ length old = c.count.ensures.value ∙ sym c.requires.count in
+    let at : c.copy-visit.result ≡ copy_visit (replica_of c.args.self.now) (length old) = c.copy-visit.ensures ∙ (λ i. copy_visit (c.id.ensures.value i) (long i)) in
+    (after, subst (λ (v : VisitState). GoneThrough v after old new) at c.in_ok-after.ensures.gone, sym c.into_copy.ensures ∙ c.in-Some.is)
