@@ -15,7 +15,7 @@ use Rattle.warm_shards.specs.Shards.{IsShardCount}
 use Rattle.warm_shards.specs.Visits.{VisitState, absorb_visit}
 use Rattle.warm_shard_machine.specs.declared.calls.ShardCall.{ShardCall}
 use Rattle.warm_shard_machine.specs.declared.calls.ShardReply.{ShardReply}
-use Rattle.warm_concurrent.specs.Attached.{Known, ShardPass, ShardTurn, known_of, replica_of}
+use Rattle.warm_concurrent.specs.Attached.{Known, ShardPass, ShardTurn, known_of, opened_id}
 use Rattle.warm_concurrent.specs.Given.{AreLogs, HasMade, SameGiven, TwoThreadsAreHeld, gave, gave_call, gave_together, log_at}
 use Rattle.warm_shard_machine.specs.Laws.{Log}
 use Rattle.warm_concurrent.specs.Laws.{OverCalls}
@@ -250,8 +250,8 @@ module _ (turns : List ShardTurn) (first here there mine yours all : List ShardP
 pub two_threads_are_held : TwoThreadsAreHeld
 two_threads_are_held S opened turns first here there mine yours all one two results valid opens stands start halved split absorbed also joined closes =
     let n = length turns in
-    let v = absorb_visit (replica_of turns) n one in
-    let x = absorb_visit (replica_of turns) n two in
+    let v = absorb_visit (opened_id turns) n one in
+    let x = absorb_visit (opened_id turns) n two in
     let w = absorbed.0 in
     let y = also.0 in
     let come = two_come first here there mine yours all v w x y halved split absorbed.1.goes also.1.goes joined in
@@ -264,8 +264,8 @@ two_threads_are_held S opened turns first here there mine yours all one two resu
     let there_long : length there ≡ length turns = split.count ∙ start.count in
     let mine_long : length mine ≡ length turns = (ended_kept.visited here mine v w absorbed.1.goes).count ∙ here_long in
     let count : IsShardCount (length turns) = subst IsShardCount (sym long) valid.count in
-    let left = (threads_give here mine (subst IsShardCount (sym here_long) count)).absorbed (replica_of turns) one (subst (λ (k : ℕ). IsGoneThrough (absorb_visit (replica_of turns) k one) here mine) (sym here_long) absorbed) in
-    let right = (threads_give there yours (subst IsShardCount (sym there_long) count)).absorbed (replica_of turns) two (subst (λ (k : ℕ). IsGoneThrough (absorb_visit (replica_of turns) k two) there yours) (sym there_long) also) in
+    let left = (threads_give here mine (subst IsShardCount (sym here_long) count)).absorbed (opened_id turns) one (subst (λ (k : ℕ). IsGoneThrough (absorb_visit (opened_id turns) k one) here mine) (sym here_long) absorbed) in
+    let right = (threads_give there yours (subst IsShardCount (sym there_long) count)).absorbed (opened_id turns) two (subst (λ (k : ℕ). IsGoneThrough (absorb_visit (opened_id turns) k two) there yours) (sym there_long) also) in
     let closing = shared_is_of_given S opened turns all nodes valid opens stands closed in
     let logs = closing.0 in
     let G = gave_together logs in

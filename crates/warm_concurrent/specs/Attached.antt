@@ -83,5 +83,5 @@ abbrev pub KeepsOtherPasses : List ShardPass → ℕ → List ShardPass → Type
 KeepsOtherPasses old i new = new ≡ slice_set old i (shard_pass new i)
 
 -- the number of the replica with whose nodes the shards opened
-abbrev pub replica_of : List ShardTurn → ℕ
-replica_of turns = (shard_turn turns 0).opening.node.id
+abbrev pub opened_id : List ShardTurn → ℕ
+opened_id turns = (shard_turn turns 0).opening.node.id

@@ -8,7 +8,7 @@ use Rattle.warm_frames.specs.declared.message.Message.{Message}
 use Rattle.warm_peer.specs.Answers.{IsAnswer}
 use Rattle.warm_shards.specs.Visits.{VisitState, copy_of, copy_visit}
 use Rattle.warm_concurrent.specs.declared.fault.SharedFault.{SharedFault}
-use Rattle.warm_concurrent.specs.Attached.{OpenedAs, ShardPass, ShardTurn, replica_of}
+use Rattle.warm_concurrent.specs.Attached.{OpenedAs, ShardPass, ShardTurn, opened_id}
 use Rattle.warm_concurrent.specs.Visiting.{GoneThrough, VisitOrEndFails}
 
 -- the history of each shard of the replica of this number was copied in one turn, and this is their
@@ -30,6 +30,6 @@ ListsAll id n pages old new = (copy : HistoryView) × CopiesAll id copy old new
 -- with which the shards opened, answers the message with these messages
 abbrev pub AnswersByCopy : List ShardTurn → Message → List Message → List ShardPass
     → List ShardPass → Type 0
-AnswersByCopy turns message answers old new = OpenedAs (replica_of turns) turns
-    × (copy : HistoryView) × CopiesAll (replica_of turns) copy old new
-    × IsAnswer (replica_of turns) copy message answers
+AnswersByCopy turns message answers old new = OpenedAs (opened_id turns) turns
+    × (copy : HistoryView) × CopiesAll (opened_id turns) copy old new
+    × IsAnswer (opened_id turns) copy message answers

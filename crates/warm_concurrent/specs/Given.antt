@@ -33,7 +33,7 @@ use Rattle.warm_shard_machine.specs.declared.calls.ShardReply.{ShardReply}
 use Rattle.warm_shard_machine.specs.declared.calls.ShardReply.TheVariants.{Done, Entered, Kept}
 use Rattle.warm_shard_machine.specs.declared.calls.ShardReply.TheVariants.{Page}
 use Rattle.warm_concurrent.specs.declared.fault.SharedFault.{SharedFault}
-use Rattle.warm_concurrent.specs.Attached.{Known, ShardPass, ShardTurn, known_of, replica_of}
+use Rattle.warm_concurrent.specs.Attached.{Known, ShardPass, ShardTurn, known_of, opened_id}
 use Rattle.warm_concurrent.specs.Attached.{shard_turn}
 use Rattle.warm_concurrent.specs.Clauses.{AnsweredByShard, CallFails}
 use Rattle.warm_concurrent.specs.Laws.{all_of}
@@ -200,8 +200,8 @@ TwoThreadsAreHeld = (S : ReferenceSet) (opened : List NodeState) (turns : List S
     (results : List (Result NodeState Busy)) → AreShards opened
     → openings turns ≡ shards_over opened → StandsFor (whole opened) S → AreFirst turns first
     → AreHalved first here → AreSplit first there
-    → IsGoneThrough (absorb_visit (replica_of turns) (length turns) one) here mine
-    → IsGoneThrough (absorb_visit (replica_of turns) (length turns) two) there yours
+    → IsGoneThrough (absorb_visit (opened_id turns) (length turns) one) here mine
+    → IsGoneThrough (absorb_visit (opened_id turns) (length turns) two) there yours
     → PassesAreJoined mine yours all → AreClosed turns all results
     → (nodes : List NodeState) × (results ≡ map (λ n. Ok n) nodes)
     × StandsFor (whole nodes) (S ∪ (set_of_list one ∪ set_of_list two))

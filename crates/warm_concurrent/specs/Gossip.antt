@@ -8,8 +8,8 @@ use Rattle.warm_concurrent.specs.Visiting.{GoneThrough, VisitOrEndFails}
 
 -- each shard of the replica of this number offered its digests in one turn, and this is the message of
 -- what they offer together
-abbrev pub OffersAll : ℕ → Message → List ShardPass → List ShardPass → Type 0
-OffersAll id message old new = (w : VisitState)
+abbrev pub ShardsOffer : ℕ → Message → List ShardPass → List ShardPass → Type 0
+ShardsOffer id message old new = (w : VisitState)
     × GoneThrough (offer_visit id (length old)) w old new × (offer_in w.id w.made ≡ Some message)
 
 -- all shards of the replica of this number took the message in, and answered with these messages

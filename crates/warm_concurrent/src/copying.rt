@@ -4,7 +4,7 @@ ghost use Rattle.std.specs.Prelude.{◌≡◌, ◌<◌, length, IfErr, IfOk};
 ghost use Rattle.warm_history.specs.Histories.{references_of};
 ghost use Rattle.warm_peer.specs.Answers.{IsAnswer};
 ghost use Rattle.warm_rank.specs.Ranking.{hottest_pages};
-ghost use Rattle.warm_concurrent.specs.Attached.{AreOf, replica_of};
+ghost use Rattle.warm_concurrent.specs.Attached.{AreOf, opened_id};
 ghost use Rattle.warm_concurrent.specs.Copying.{AnswersByCopy, CopiesAll, CopyFails, ListsAll};
 
 use crate::shared::{Attached, SharedShards};
@@ -72,8 +72,8 @@ impl<D: PageDevice + Send> SharedShards<D> {
         requires { AreOf self.now attached.old.passes }
         ensures attached { AreOf self.now attached.new.passes }
         ensures copied { IfOk result (λ copy.
-            CopiesAll (replica_of self.now) copy attached.old.passes attached.new.passes) }
-        ensures stopped { IfErr result (λ at. CopyFails (replica_of self.now) at.shard at.fault
+            CopiesAll (opened_id self.now) copy attached.old.passes attached.new.passes) }
+        ensures stopped { IfErr result (λ at. CopyFails (opened_id self.now) at.shard at.fault
             attached.old.passes attached.new.passes) }
         ensures pins { attached.new.pins ≡ attached.old.pins }
     {
@@ -102,8 +102,8 @@ impl<D: PageDevice + Send> SharedShards<D> {
         requires { AreOf self.now attached.old.passes }
         ensures attached { AreOf self.now attached.new.passes }
         ensures listed { IfOk result (λ pages.
-            ListsAll (replica_of self.now) n pages attached.old.passes attached.new.passes) }
-        ensures stopped { IfErr result (λ at. CopyFails (replica_of self.now) at.shard at.fault
+            ListsAll (opened_id self.now) n pages attached.old.passes attached.new.passes) }
+        ensures stopped { IfErr result (λ at. CopyFails (opened_id self.now) at.shard at.fault
             attached.old.passes attached.new.passes) }
         ensures pins { attached.new.pins ≡ attached.old.pins }
     {
@@ -133,7 +133,7 @@ impl<D: PageDevice + Send> SharedShards<D> {
         ensures attached { AreOf self.now attached.new.passes }
         ensures answers { IfOk result (λ answers. AnswersByCopy self.now message.now answers
             attached.old.passes attached.new.passes) }
-        ensures stopped { IfErr result (λ at. CopyFails (replica_of self.now) at.shard at.fault
+        ensures stopped { IfErr result (λ at. CopyFails (opened_id self.now) at.shard at.fault
             attached.old.passes attached.new.passes) }
         ensures pins { attached.new.pins ≡ attached.old.pins }
     {

@@ -6,7 +6,7 @@
 ghost use Rattle.std.specs.Prelude.{◌≡◌, length, IfErr, OnErr, OnOk};
 ghost use Rattle.warm_refbuffer.specs.Buffered.{cleared};
 ghost use Rattle.warm_shards.specs.Visits.{absorb_visit};
-ghost use Rattle.warm_concurrent.specs.Attached.{AreOf, replica_of};
+ghost use Rattle.warm_concurrent.specs.Attached.{AreOf, opened_id};
 ghost use Rattle.warm_concurrent.specs.Visiting.{IsGoneThrough, VisitFails};
 
 use crate::shared::{Attached, SharedShards};
@@ -33,10 +33,10 @@ impl<D: PageDevice + Send> SharedShards<D> {
         requires { AreOf self.now attached.old.passes }
         ensures attached { AreOf self.now attached.new.passes }
         ensures absorbed { OnOk result (IsGoneThrough
-            (absorb_visit (replica_of self.now) (length self.now) buffer.old.refs)
+            (absorb_visit (opened_id self.now) (length self.now) buffer.old.refs)
             attached.old.passes attached.new.passes) }
         ensures stopped { IfErr result (λ at. VisitFails
-            (absorb_visit (replica_of self.now) (length self.now) buffer.old.refs)
+            (absorb_visit (opened_id self.now) (length self.now) buffer.old.refs)
             at.shard at.fault attached.old.passes attached.new.passes) }
         ensures emptied { OnOk result (buffer.new ≡ cleared buffer.old) }
         ensures kept { OnErr result (buffer.new ≡ buffer.old) }

@@ -4,9 +4,9 @@ ghost use Rattle.warm_shards.specs.Visits.{join_visit, offer_visit};
 ghost use Rattle.warm_shard_machine.specs.ShardSteps.{shard_of_bucket};
 ghost use Rattle.warm_shard_machine.specs.declared.calls.ShardCall.TheVariants.{Send, SendSince};
 ghost use Rattle.warm_shard_machine.specs.declared.calls.ShardReply.TheVariants.{Portion, Sent};
-ghost use Rattle.warm_concurrent.specs.Attached.{AreOf, AreTurns, replica_of};
+ghost use Rattle.warm_concurrent.specs.Attached.{AreOf, AreTurns, opened_id};
 ghost use Rattle.warm_concurrent.specs.Clauses.{CallEnds};
-ghost use Rattle.warm_concurrent.specs.Gossip.{OffersAll, ReceiveFails, ShardsReceive};
+ghost use Rattle.warm_concurrent.specs.Gossip.{ShardsOffer, ReceiveFails, ShardsReceive};
 ghost use Rattle.warm_concurrent.specs.Visiting.{IsGoneThrough, VisitFails};
 
 use crate::fault::SharedFault;
@@ -148,10 +148,10 @@ impl<D: PageDevice + Send> SharedShards<D> {
     ) -> Result<Message, Stopped>
         requires { AreOf self.now attached.old.passes }
         ensures attached { AreOf self.now attached.new.passes }
-        ensures offered { IfOk result (λ message. OffersAll (replica_of self.now) message
+        ensures offered { IfOk result (λ message. ShardsOffer (opened_id self.now) message
             attached.old.passes attached.new.passes) }
         ensures stopped { IfErr result (λ at. VisitFails
-            (offer_visit (replica_of self.now) (length self.now))
+            (offer_visit (opened_id self.now) (length self.now))
             at.shard at.fault attached.old.passes attached.new.passes) }
         ensures pins { attached.new.pins ≡ attached.old.pins }
     {
@@ -195,9 +195,9 @@ impl<D: PageDevice + Send> SharedShards<D> {
     ) -> Result<MessageList, Stopped>
         requires { AreOf self.now attached.old.passes }
         ensures attached { AreOf self.now attached.new.passes }
-        ensures received { IfOk result (λ messages. ShardsReceive (replica_of self.now)
+        ensures received { IfOk result (λ messages. ShardsReceive (opened_id self.now)
             message.now messages attached.old.passes attached.new.passes) }
-        ensures stopped { IfErr result (λ at. ReceiveFails (replica_of self.now) message.now
+        ensures stopped { IfErr result (λ at. ReceiveFails (opened_id self.now) message.now
             at.shard at.fault attached.old.passes attached.new.passes) }
         ensures pins { attached.new.pins ≡ attached.old.pins }
     {
@@ -229,10 +229,10 @@ impl<D: PageDevice + Send> SharedShards<D> {
         requires { AreOf self.now attached.old.passes }
         ensures attached { AreOf self.now attached.new.passes }
         ensures joined { OnOk result (IsGoneThrough
-            (join_visit (replica_of self.now) (length self.now) other.now)
+            (join_visit (opened_id self.now) (length self.now) other.now)
             attached.old.passes attached.new.passes) }
         ensures stopped { IfErr result (λ at. VisitFails
-            (join_visit (replica_of self.now) (length self.now) other.now)
+            (join_visit (opened_id self.now) (length self.now) other.now)
             at.shard at.fault attached.old.passes attached.new.passes) }
         ensures pins { attached.new.pins ≡ attached.old.pins }
     {

@@ -2,7 +2,7 @@
 //! pages.
 ghost use Rattle.std.specs.Prelude.{◌≡◌, ◌<◌, length, IfErr, IfOk, OnOk};
 ghost use Rattle.warm_shards.specs.Visits.{absorb_visit};
-ghost use Rattle.warm_concurrent.specs.Attached.{AreOf, AreTurns, replica_of};
+ghost use Rattle.warm_concurrent.specs.Attached.{AreOf, AreTurns, opened_id};
 ghost use Rattle.warm_concurrent.specs.Clauses.{CallEnds};
 ghost use Rattle.warm_shard_machine.specs.declared.calls.ShardCall.TheVariants.{Raise, WarmList};
 ghost use Rattle.warm_shard_machine.specs.declared.calls.ShardReply.TheVariants.{Kept, Pages};
@@ -112,10 +112,10 @@ impl<D: PageDevice + Send> SharedShards<D> {
         requires { AreOf self.now attached.old.passes }
         ensures attached { AreOf self.now attached.new.passes }
         ensures absorbed { OnOk result (IsGoneThrough
-            (absorb_visit (replica_of self.now) (length self.now) batch.now)
+            (absorb_visit (opened_id self.now) (length self.now) batch.now)
             attached.old.passes attached.new.passes) }
         ensures stopped { IfErr result (λ at. VisitFails
-            (absorb_visit (replica_of self.now) (length self.now) batch.now)
+            (absorb_visit (opened_id self.now) (length self.now) batch.now)
             at.shard at.fault attached.old.passes attached.new.passes) }
         ensures pins { attached.new.pins ≡ attached.old.pins }
     {

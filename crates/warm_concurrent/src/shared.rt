@@ -1,7 +1,7 @@
 //! Shards that threads share, and what each thread has of them.
 ghost use Rattle.std.specs.Prelude.{◌≡◌, ◌<◌, length, IfErr, IfOk, OnErr};
 ghost use Rattle.warm_shards.specs.Shards.{IsShardCount, shard_of};
-ghost use Rattle.warm_concurrent.specs.Attached.{AreOf, AreTurns, OpenedAs, replica_of};
+ghost use Rattle.warm_concurrent.specs.Attached.{AreOf, AreTurns, OpenedAs, opened_id};
 ghost use Rattle.warm_concurrent.specs.Clauses.{AnsweredByShard, Spent};
 ghost use Rattle.warm_concurrent.specs.declared.fault.SharedFault.TheVariants.{TurnsSpent};
 ghost use Rattle.warm_shard_machine.specs.ShardSteps.{MayAnswer};
@@ -70,7 +70,7 @@ impl<D: PageDevice + Send> SharedShards<D> {
     /// The replica's number: that of each node with which the shards opened.
     pub fn id(&self) -> ReplicaId
         ensures opened { OpenedAs result self.now }
-        ensures value { result ≡ replica_of self.now }
+        ensures value { result ≡ opened_id self.now }
     {
         self.id
     }

@@ -1,6 +1,6 @@
 use Rattle.std.proofs.Common.{◌≡◌, length, refl, sym, subst, ◌∙◌}
 use Rattle.warm_shards.specs.Visits.{VisitState, copy_visit, copying}
-use Rattle.warm_concurrent.specs.Attached.{replica_of}
+use Rattle.warm_concurrent.specs.Attached.{opened_id}
 use Rattle.warm_concurrent.specs.Visiting.{GoneThrough}
 use Rattle.warm_concurrent.proofs.EntryLemmas.{visits}
 use Rattle.warm_concurrent.proofs.ReadLemmas.{copied_some, own_each}
@@ -24,5 +24,5 @@ returns-clause-copied g c =
     let new = c.go_through.new.attached.passes in
     let after = c.in_ok-after.after in
     let long : c.count.result ≡ length old = c.count.ensures.value ∙ sym c.requires.count in
-    let at : c.copy-visit.result ≡ copy_visit (replica_of c.args.self.now) (length old) = c.copy-visit.ensures ∙ (λ i. copy_visit (c.id.ensures.value i) (long i)) in
+    let at : c.copy-visit.result ≡ copy_visit (opened_id c.args.self.now) (length old) = c.copy-visit.ensures ∙ (λ i. copy_visit (c.id.ensures.value i) (long i)) in
     (after, subst (λ (v : VisitState). GoneThrough v after old new) at c.in_ok-after.ensures.gone, sym c.into_copy.ensures ∙ c.in-Some.is)

@@ -1,7 +1,7 @@
 use Rattle.std.proofs.Common.{◌≡◌, inr, length, refl, sym, subst, ◌∙◌}
 use Rattle.warm_shards.specs.Visits.{VisitState, receive_visit}
 use Rattle.warm_shards.proofs.VisitErrands.{errands_are_own}
-use Rattle.warm_concurrent.specs.Attached.{replica_of}
+use Rattle.warm_concurrent.specs.Attached.{opened_id}
 use Rattle.warm_concurrent.specs.Visiting.{GoneThrough}
 use Rattle.warm_concurrent.proofs.EntryLemmas.{received_count, received_well, visits}
 use Rattle.warm_concurrent.proofs.shared.SharedShards.receive.Goals as goal
@@ -21,7 +21,7 @@ returns-in_default-into_answers-clause-stopped g c =
     let after = c.in_ok-after.after in
     let m = c.args.message.now in
     let long : c.count-count.result ≡ length old = c.count-count.ensures.value ∙ sym c.requires.count in
-    let at : c.in-Ok.visit ≡ receive_visit (replica_of c.args.self.now) (length old) m = c.in-Ok.ensures ∙ (λ i. receive_visit (c.id.ensures.value i) (long i) m) in
+    let at : c.in-Ok.visit ≡ receive_visit (opened_id c.args.self.now) (length old) m = c.in-Ok.ensures ∙ (λ i. receive_visit (c.id.ensures.value i) (long i) m) in
     inr (c.after_all.ensures.shard ∙ long, c.after_all.ensures.fault, (after, subst (λ (v : VisitState). GoneThrough v after old new) at c.in_ok-after.ensures.gone))
 
 pub returns-clause-received : goal.returns-clause-received
@@ -31,5 +31,5 @@ returns-clause-received g c =
     let after = c.in_ok-after.after in
     let m = c.args.message.now in
     let long : c.count-count.result ≡ length old = c.count-count.ensures.value ∙ sym c.requires.count in
-    let at : c.in-Ok.visit ≡ receive_visit (replica_of c.args.self.now) (length old) m = c.in-Ok.ensures ∙ (λ i. receive_visit (c.id.ensures.value i) (long i) m) in
+    let at : c.in-Ok.visit ≡ receive_visit (opened_id c.args.self.now) (length old) m = c.in-Ok.ensures ∙ (λ i. receive_visit (c.id.ensures.value i) (long i) m) in
     (after, subst (λ (v : VisitState). GoneThrough v after old new) at c.in_ok-after.ensures.gone, c.in-Ok-into_answers.ensures)
