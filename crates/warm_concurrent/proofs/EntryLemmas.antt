@@ -1,5 +1,5 @@
 -- One entry of a visit by a turn: what the answer of the shard says of it.
-use Rattle.std.proofs.Common.{◌≡◌, ℕ, ◌<◌, Bool, true, false, List, [], ◌∷◌, ◌++◌, length, Result, Ok, Err, refl, sym, ap, subst, ◌∙◌}
+use Rattle.std.proofs.Common.{◌≡◌, ℕ, ◌<◌, Bool, true, false, List, [], ◌∷◌, ◌++◌, length, Ok, Err, refl, sym, ap, subst, ◌∙◌}
 use Rattle.std.specs.Prelude.{Some, None}
 use Rattle.warm_machine.specs.declared.operation.Operation.{Operation}
 use Rattle.warm_machine.specs.Runs.{Runs, operation}
@@ -10,7 +10,7 @@ use Rattle.warm_gossip.specs.declared.fault.NodeFault.TheVariants.{Memory}
 use Rattle.warm_gossip.specs.State.{NodeState}
 use Rattle.warm_shards.specs.Shards.{IsShardCount}
 use Rattle.warm_shards.specs.VisitLaws.{AreOwnErrands, EntersAny}
-use Rattle.warm_shards.specs.Visits.{After, Ask, ComparesOffers, Errand, HasEntered, Made, Said, Takes, VisitState, compares, copied, copying, gathered, given, giving, next_shard, offered, offering, receive_visit, refused, result_of, sending, sent, shard_next}
+use Rattle.warm_shards.specs.Visits.{After, Ask, ComparesOffers, Errand, HasEntered, Made, Said, Takes, VisitState, compares, copied, copying, gathered, given, giving, offered, offering, receive_visit, refused, result_of, sending, sent, shard_next}
 use Rattle.warm_shards.proofs.VisitErrands.{errands_are_own}
 use Rattle.warm_shards.proofs.VisitLemmas.{named}
 use Rattle.warm_shard_machine.specs.Entering.{IsNextAt, IsOnward}
@@ -22,7 +22,7 @@ use Rattle.warm_shard_machine.specs.declared.calls.ShardReply.TheVariants.{Enter
 use Rattle.warm_concurrent.specs.declared.fault.SharedFault.TheVariants.{Node}
 use Rattle.warm_concurrent.specs.Attached.{ShardPass}
 use Rattle.warm_concurrent.specs.Clauses.{AnsweredByShard}
-use Rattle.warm_concurrent.specs.Visiting.{EntersByTurn, EntryFails, GoesByTurns, IsVisitOf, RunsErrand, Visiting, as_stopped, visiting}
+use Rattle.warm_concurrent.specs.Visiting.{EntersByTurn, EntryFails, GoesByTurns, IsVisitOf, RunsErrand, as_stopped, visiting}
 
 -- ---- a visit that was refused
 

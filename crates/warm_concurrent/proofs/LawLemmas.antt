@@ -9,7 +9,7 @@ use Rattle.warm_turn.specs.CallHistories.{as_spent}
 use Rattle.warm_turn.proofs.PassLemmas.{Extended-called, Widened-joined}
 use Rattle.warm_machine.specs.declared.operation.Operation.{Operation}
 use Rattle.warm_machine.specs.Runs.{Runs}
-use Rattle.warm_shards.specs.Visits.{Errand, Said, VisitState}
+use Rattle.warm_shards.specs.Visits.{Errand, Said}
 use Rattle.warm_shard_machine.specs.declared.calls.ShardCall.{ShardCall}
 use Rattle.warm_shard_machine.specs.declared.calls.ShardCall.TheVariants.{Enter}
 use Rattle.warm_shard_machine.specs.declared.calls.ShardReply.{ShardReply}
@@ -20,7 +20,7 @@ use Rattle.warm_concurrent.specs.Attached.{KeepsOtherPasses, Known, ShardPass, k
 use Rattle.warm_concurrent.specs.Clauses.{CallFails, Got}
 use Rattle.warm_concurrent.specs.Laws.{OnlySeesMore, OverCalls, SeesMore, TogetherAreOfGiven, all_of, held_by}
 use Rattle.warm_shard_machine.specs.ShardSteps.{ShardStep}
-use Rattle.warm_concurrent.specs.Visiting.{EntersByTurn, GoesByTurns, Visiting, visiting}
+use Rattle.warm_concurrent.specs.Visiting.{EntersByTurn, Visiting, visiting}
 use Rattle.warm_concurrent.specs.Whole.{Does, First, RaisesShard}
 use Rattle.warm_shards.proofs.Places.{at_each}
 

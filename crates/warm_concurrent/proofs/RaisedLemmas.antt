@@ -9,7 +9,7 @@ use Rattle.warm_shards.specs.Shards.{of_shard}
 use Rattle.warm_shards.specs.VisitParts.{raise_from}
 use Rattle.warm_shards.specs.Visits.{Errand, Said, VisitState, give_plan, next_shard, raise_plan, shard_next}
 use Rattle.warm_shards.proofs.VisitPlans.{raise_begun, raise_end, raise_here}
-use Rattle.warm_concurrent.specs.Attached.{ShardPass, shard_pass}
+use Rattle.warm_concurrent.specs.Attached.{ShardPass}
 use Rattle.warm_concurrent.specs.Given.{only_horizon}
 use Rattle.warm_concurrent.specs.Visiting.{EntersByTurn, GoesByTurns, Visiting, visiting}
 use Rattle.warm_concurrent.proofs.GivenLemmas.{EachGives, Gives, given_as, given_then, nothing}

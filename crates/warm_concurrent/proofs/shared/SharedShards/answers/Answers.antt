@@ -1,4 +1,4 @@
-use Rattle.std.proofs.Common.{◌≡◌, ℕ, inr, sym, subst, ◌∙◌}
+use Rattle.std.proofs.Common.{◌≡◌, inr, sym, subst, ◌∙◌}
 use Rattle.warm_peer.specs.Answers.{IsAnswer}
 use Rattle.warm_concurrent.specs.Attached.{OpenedAs, opened_id}
 use Rattle.warm_concurrent.proofs.shared.SharedShards.answers.Goals as goal

@@ -1,4 +1,4 @@
-use Rattle.std.proofs.Common.{◌≡◌, inr, length, refl, sym, subst, ◌∙◌}
+use Rattle.std.proofs.Common.{◌≡◌, inr, length, sym, subst, ◌∙◌}
 use Rattle.warm_shards.specs.Visits.{VisitState, receive_visit}
 use Rattle.warm_shards.proofs.VisitErrands.{errands_are_own}
 use Rattle.warm_concurrent.specs.Attached.{opened_id}
