@@ -3,9 +3,10 @@ use Rattle.std.proofs.Common.{◌≡◌, ℕ, Bool, true, false, List, [], ◌�
 use Rattle.std.specs.Prelude.{Some}
 use Rattle.std.proofs.lemmas.List.{append-nil}
 use Rattle.warm_history.specs.ReferenceSets.{ReferenceSet, set_of_list, ◌∪◌}
-use Rattle.warm_history.specs.Histories.{HistoryView, history, references_of}
+use Rattle.warm_history.specs.Histories.{history, references_of}
 use Rattle.warm_history.proofs.JoinLemmas.{history_first}
-use Rattle.warm_pool.specs.View.{PoolView, view_of}
+use Rattle.warm_frames.specs.declared.message.Message.TheVariants.{Digest}
+use Rattle.warm_pool.specs.View.{view_of}
 use Rattle.warm_gossip.specs.Clauses.{SameView}
 use Rattle.warm_gossip.specs.State.{NodeState, NodeView, node_view}
 use Rattle.warm_shards.specs.Shards.{HoldsPagesOf, HoldsShard}
@@ -13,6 +14,7 @@ use Rattle.warm_shards.specs.VisitLaws.{AreOwnErrands, IsOwnAsk}
 use Rattle.warm_shards.specs.Visits.{Ask, Errand, HasEntered, NodeSays, Said, Takes, VisitState, copied, copying, given, giving, keeps, offered, offering, onward, refused, sending, sent}
 use Rattle.warm_shards.proofs.Calls.{takes_own}
 use Rattle.warm_shards.proofs.VisitLemmas.{named}
+use Rattle.warm_shard_machine.specs.Laws.{ErrandsAreCalls}
 use Rattle.warm_shard_machine.specs.Entering.{IsNextAt, gave_ask, gave_entry, gave_first}
 
 -- ---- what it leaves
@@ -99,3 +101,14 @@ module _ (S : ReferenceSet) (n m : NodeState) (stands : n.history ≡ history S)
       → m.history ≡ history (S ∪ gave_entry v w)
   entered_given v w (e, said, enters) =
       subst (λ es. m.history ≡ history (S ∪ gave_first es w.stopped)) (sym enters.next) (says_given v w e.shard e.ask enters.rest said enters.ready enters.says enters.takes)
+
+-- ---- as calls of the node
+
+pub errands_are_calls : (n m : NodeState) → ErrandsAreCalls n m
+errands_are_calls n m = record {
+  absorbs = λ batch horizon says. says.0.0;
+  raises = λ time horizon says. (says.0.0, says.1);
+  receives = λ sender time horizon entries says. (refl, says.0.0);
+  offers = λ horizon table says. (λ i. Digest n.id (says.0 i) (says.1 i), says.2.0);
+  refuses = λ batch says. says.1.0;
+}
