@@ -16,7 +16,7 @@ use Rattle.warm_shards.specs.Visits.{Errand, VisitState, absorb_visit, at_each, 
 use Rattle.warm_shards.proofs.AreShardsLemmas.{some_count}
 use Rattle.warm_shards.proofs.Lists.{from_filter, in_both, in_filter, in_first, in_second}
 use Rattle.warm_shard_machine.specs.declared.calls.ShardCall.{ShardCall}
-use Rattle.warm_shard_machine.specs.declared.calls.ShardCall.TheVariants.{Absorb, Enter, Raise, TakeIn}
+use Rattle.warm_shard_machine.specs.declared.calls.ShardCall.TheVariants.{Enter, Raise}
 use Rattle.warm_shard_machine.specs.declared.calls.ShardReply.{ShardReply}
 use Rattle.warm_shard_machine.specs.declared.calls.ShardReply.TheVariants.{Done, Entered, Refused}
 use Rattle.warm_shard_machine.specs.Entering.{gave_first}
@@ -93,9 +93,7 @@ fails_each old new i c why none lt fails = absurd fails
 
 -- a call that is refused gave nothing
 gave_none : (c : ShardCall) (w : NodeFault) → gave_call c (Refused w) ≡ set_of_list []
-gave_none (Absorb batch) w = refl
 gave_none (Raise time) w = refl
-gave_none (TakeIn horizon es) w = refl
 gave_none c w = refl
 
 sum_nothing : (n : ℕ) → sum nothing n ≡ set_of_list []

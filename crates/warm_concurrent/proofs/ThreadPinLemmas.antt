@@ -9,7 +9,7 @@ use Rattle.warm_turn.specs.declared.table.EndedPass.{EndedPass}
 use Rattle.warm_turn.specs.CallHistories.{as_ended}
 use Rattle.warm_shards.specs.Visits.{Errand, Said, VisitState}
 use Rattle.warm_shard_machine.specs.declared.calls.ShardCall.{ShardCall}
-use Rattle.warm_shard_machine.specs.declared.calls.ShardCall.TheVariants.{CopyHistory, Enter, Pin, PinFilled, PinZeroed, Raise}
+use Rattle.warm_shard_machine.specs.declared.calls.ShardCall.TheVariants.{Enter, Pin, PinFilled, PinZeroed, Raise, Victim}
 use Rattle.warm_shard_machine.specs.declared.calls.ShardReply.{ShardReply}
 use Rattle.warm_shard_machine.specs.declared.calls.ShardReply.TheVariants.{Done, Entered, Kept, Refused}
 use Rattle.warm_concurrent.specs.declared.fault.SharedFault.{SharedFault}
@@ -125,7 +125,7 @@ module _ (w : ShardCall → ShardReply → ℕ) where
 
   -- a mark is no call
   marked_same : (old new : List ShardPass) (i : ℕ) → i < length old
-      → CallFails old i CopyHistory TurnsSpent new
+      → CallFails old i Victim TurnsSpent new
       → total w (thread_calls new) ≡ total w (thread_calls old) + 0
   marked_same old new i lt spent =
       let same : weight (shard_pass new i) ≡ weight (shard_pass old i) = ap (λ (v : Known). total w (calls_held v)) spent.0 in

@@ -8,7 +8,7 @@ use Rattle.warm_stamps.specs.declared.PageId.{PageId}
 use Rattle.warm_stamps.specs.declared.Reference.{Reference}
 use Rattle.warm_history.specs.ReferenceSets.{ReferenceSet, set_of_list, ◌∪◌}
 use Rattle.warm_history.specs.References.{IsIn}
-use Rattle.warm_history.specs.Histories.{HistoryView, StandsFor, history_of_entries_at}
+use Rattle.warm_history.specs.Histories.{HistoryView, StandsFor}
 use Rattle.warm_history.specs.Histories.{references_of}
 use Rattle.warm_rank.specs.Laws.{IsFarthest}
 use Rattle.warm_frames.specs.declared.message.Message.{Message}
@@ -25,9 +25,9 @@ use Rattle.warm_shards.specs.Shards.{AreShards, IsShardCount, of_first_shards, s
 use Rattle.warm_shards.specs.Visits.{VisitState, absorb_visit, copy_visit, join_visit, offer_visit}
 use Rattle.warm_shards.specs.Visits.{receive_visit}
 use Rattle.warm_shard_machine.specs.declared.calls.ShardCall.{ShardCall}
-use Rattle.warm_shard_machine.specs.declared.calls.ShardCall.TheVariants.{Absorb, Raise, Pin, Look}
+use Rattle.warm_shard_machine.specs.declared.calls.ShardCall.TheVariants.{Raise, Pin, Look}
 use Rattle.warm_shard_machine.specs.declared.calls.ShardCall.TheVariants.{Change, PinFilled}
-use Rattle.warm_shard_machine.specs.declared.calls.ShardCall.TheVariants.{PinZeroed, TakeIn, Victim}
+use Rattle.warm_shard_machine.specs.declared.calls.ShardCall.TheVariants.{PinZeroed, Victim}
 use Rattle.warm_shard_machine.specs.declared.calls.ShardCall.TheVariants.{Enter, WarmStep}
 use Rattle.warm_shard_machine.specs.declared.calls.ShardReply.{ShardReply}
 use Rattle.warm_shard_machine.specs.declared.calls.ShardReply.TheVariants.{Done, Entered, Kept}
@@ -63,12 +63,9 @@ only_horizon time = record { horizon = time; given = [] }
 abbrev pub log_at : List Log → ℕ → Log
 log_at logs i = slice_index_or logs i []
 
--- what a call with this reply gave its shard: the references of a batch, a horizon, the references
--- and the horizon of entries, or those of an errand of a visit
+-- what a call with this reply gave its shard: a horizon, or what an errand of a visit gives
 abbrev pub gave_call : ShardCall → ShardReply → ReferenceSet
-gave_call (Absorb batch) Done = set_of_list batch
 gave_call (Raise time) (Kept horizon) = only_horizon time
-gave_call (TakeIn horizon entries) Done = references_of (history_of_entries_at horizon entries)
 gave_call (Enter count number v) (Entered w) = gave_entry v w
 gave_call call reply = set_of_list []
 

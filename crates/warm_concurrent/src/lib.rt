@@ -24,5 +24,5 @@ pub use retiring::NotRetired;
 pub use shared::{Attached, SharedShards};
 pub use sharing::Sharing;
 pub use visiting::Stopped;
-pub use warm_shard_machine::{BoxedHistory, Shard, ShardCall, ShardReply, StateOfShard};
+pub use warm_shard_machine::{Shard, ShardCall, ShardReply, StateOfShard};
 pub use writing::NotWritten;

@@ -1,6 +1,5 @@
 -- What an errand of a visit leaves of the node that it was run at, and what it gave.
-use Rattle.std.proofs.Common.{◌≡◌, ℕ, Bool, true, false, List, [], ◌∷◌, max, refl, sym, ap, subst, ◌∙◌, arith}
-use Rattle.std.specs.Prelude.{Some}
+use Rattle.std.proofs.Common.{◌≡◌, ℕ, true, false, List, [], ◌∷◌, max, refl, sym, ap, subst, ◌∙◌, arith}
 use Rattle.std.proofs.lemmas.List.{append-nil}
 use Rattle.warm_history.specs.ReferenceSets.{ReferenceSet, set_of_list, ◌∪◌}
 use Rattle.warm_history.specs.Histories.{history, references_of}
@@ -11,7 +10,7 @@ use Rattle.warm_gossip.specs.Clauses.{SameView}
 use Rattle.warm_gossip.specs.State.{NodeState, NodeView, node_view}
 use Rattle.warm_shards.specs.Shards.{HoldsPagesOf, HoldsShard}
 use Rattle.warm_shards.specs.VisitLaws.{AreOwnErrands, IsOwnAsk}
-use Rattle.warm_shards.specs.Visits.{Ask, Errand, HasEntered, NodeSays, Said, Takes, VisitState, copied, copying, given, giving, keeps, offered, offering, onward, refused, sending, sent}
+use Rattle.warm_shards.specs.Visits.{Ask, Errand, HasEntered, NodeSays, Said, Takes, VisitState, copied, copying, given, giving, offered, offering, refused, sending, sent}
 use Rattle.warm_shards.proofs.Calls.{takes_own}
 use Rattle.warm_shards.proofs.VisitLemmas.{named}
 use Rattle.warm_shard_machine.specs.Laws.{ErrandsAreCalls}

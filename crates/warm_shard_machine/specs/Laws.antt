@@ -3,7 +3,7 @@ use Rattle.std.specs.Prelude.{ℕ, List, [], ◌∷◌, ◌++◌, Option, Some, 
 use Rattle.warm_stamps.specs.declared.Reference.{Reference}
 use Rattle.warm_history.specs.Entry.{Entry}
 use Rattle.warm_history.specs.ReferenceSets.{ReferenceSet, set_of_list, ◌∪◌}
-use Rattle.warm_history.specs.Histories.{StandsFor, history_of_entries_at, references_of}
+use Rattle.warm_history.specs.Histories.{StandsFor}
 use Rattle.warm_frames.specs.declared.message.Message.TheVariants.{Digest, Entries}
 use Rattle.warm_machine.specs.declared.operation.Operation.{Operation}
 use Rattle.warm_machine.specs.Runs.{Runs, operation}
@@ -25,7 +25,7 @@ use Rattle.warm_shard_machine.specs.declared.calls.ShardReply.TheVariants.{Enter
 use Rattle.warm_shard_machine.specs.Entering.{gave_entry}
 use Rattle.warm_shard_machine.specs.ShardSteps.{Asked, NodeStep, Work, calling, changing, doing}
 use Rattle.warm_shard_machine.specs.ShardSteps.{entering}
-use Rattle.warm_shard_machine.specs.ShardSteps.{looking, taking_in, ShardState, ShardStep, asked_of}
+use Rattle.warm_shard_machine.specs.ShardSteps.{looking, ShardState, ShardStep, asked_of}
 use Rattle.warm_shard_machine.specs.ShardSteps.{node_reply_of}
 
 -- calls of a shard, each with its reply, in their order
@@ -66,11 +66,9 @@ given_by_reply S call None = S
 given_by_reply S call (Some reply) = given_by_call S call reply
 
 -- the references that a node was given, from these on, after one step with this reply: a call of
--- the node, entries that it took in, or an errand of a visit; another step adds none
+-- the node, or an errand of a visit; another step adds none
 abbrev pub given_by_step : ReferenceSet → Work → ShardReply → ReferenceSet
 given_by_step S (calling call) reply = given_by_reply S call (node_reply_of reply)
-given_by_step S (taking_in horizon entries) Done =
-    S ∪ references_of (history_of_entries_at horizon entries)
 given_by_step S (entering count number v) (Entered w) = S ∪ gave_entry v w
 given_by_step S work reply = S
 

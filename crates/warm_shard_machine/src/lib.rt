@@ -5,7 +5,6 @@
 //! what its calls do to its node (see [`laws`]), and what a visitor that has it for one turn does.
 #![tactic(auto)]
 
-mod boxed_history;
 mod calls;
 mod entering;
 mod filling;
@@ -16,7 +15,6 @@ mod shard;
 mod told_visit;
 mod visitors;
 
-pub use boxed_history::BoxedHistory;
 pub use calls::{ShardCall, ShardReply};
 pub use entering::Entering;
 pub use filling::Filling;
