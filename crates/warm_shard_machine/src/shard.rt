@@ -326,8 +326,8 @@ impl<D: PageDevice> Shard<D> {
         }
     }
 
-    /// Answers a call: `ShardStep`. A call that brings a page of another shard is answered
-    /// `Foreign`, and nothing has changed.
+    /// Answers a call: `ShardStep`. One that is of another shard is answered `Foreign`, and nothing
+    /// has changed.
     #[inline(always)]
     pub fn call(&mut self, call: ShardCall) -> ShardReply
         ensures { ShardStep self.old call result self.new }
