@@ -11,10 +11,10 @@ use Rattle.warm_frames.specs.declared.message.Message.TheVariants.{Entries, Dige
 use Rattle.warm_gossip.specs.declared.fault.NodeFault.{NodeFault}
 use Rattle.warm_gossip.specs.declared.fault.NodeFault.TheVariants.{Memory}
 use Rattle.warm_peer.specs.Answers.{refs_in, requested_buckets}
-use Rattle.warm_shards.specs.Shards.{IsShardCount, of_first_shards, of_shard, shard_of}
-use Rattle.warm_shards.specs.Visits.{Errand, VisitState, absorb_visit, at_each, copy_visit, copying, give_plan, join_visit, next_shard, offer_visit, offering, raise_plan, receive_visit, send_plan}
-use Rattle.warm_shards.proofs.AreShardsLemmas.{some_count}
-use Rattle.warm_shards.proofs.Lists.{from_filter, in_both, in_filter, in_first, in_second}
+use Rattle.warm_visits.specs.ShardNumbers.{IsShardCount, of_first_shards, of_shard, shard_of}
+use Rattle.warm_visits.specs.Visits.{Errand, VisitState, absorb_visit, at_each, copy_visit, copying, give_plan, join_visit, next_shard, offer_visit, offering, raise_plan, receive_visit, send_plan}
+use Rattle.warm_visits.proofs.ErrandLemmas.{some_count}
+use Rattle.warm_visits.proofs.Lists.{from_filter, in_both, in_filter, in_first, in_second}
 use Rattle.warm_shard_machine.specs.declared.calls.ShardCall.{ShardCall}
 use Rattle.warm_shard_machine.specs.declared.calls.ShardCall.TheVariants.{Enter, Raise}
 use Rattle.warm_shard_machine.specs.declared.calls.ShardReply.{ShardReply}

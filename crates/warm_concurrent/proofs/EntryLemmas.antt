@@ -8,10 +8,10 @@ use Rattle.warm_frames.specs.declared.message.Message.TheVariants.{Digest, Entri
 use Rattle.warm_gossip.specs.declared.fault.NodeFault.{NodeFault}
 use Rattle.warm_gossip.specs.declared.fault.NodeFault.TheVariants.{Memory}
 use Rattle.warm_gossip.specs.State.{NodeState}
-use Rattle.warm_shards.specs.Shards.{IsShardCount}
-use Rattle.warm_shards.specs.VisitLaws.{AreOwnErrands, EntersAny}
-use Rattle.warm_shards.specs.Visits.{After, Ask, ComparesOffers, Errand, HasEntered, Made, Said, Takes, VisitState, compares, copied, copying, gathered, given, giving, offered, offering, receive_visit, refused, result_of, sending, sent, shard_next}
-use Rattle.warm_shards.proofs.VisitErrands.{errands_are_own}
+use Rattle.warm_visits.specs.ShardNumbers.{IsShardCount}
+use Rattle.warm_visits.specs.Laws.{AreOwnErrands, EntersAny}
+use Rattle.warm_visits.specs.Visits.{After, Ask, ComparesOffers, Errand, HasEntered, Made, Said, Takes, VisitState, compares, copied, copying, gathered, given, giving, offered, offering, receive_visit, refused, result_of, sending, sent, shard_next}
+use Rattle.warm_visits.proofs.VisitErrands.{errands_are_own}
 use Rattle.warm_shards.proofs.VisitLemmas.{named}
 use Rattle.warm_shard_machine.specs.Entering.{IsNextAt, IsOnward}
 use Rattle.warm_shard_machine.specs.ShardSteps.{MayAnswer}

@@ -5,8 +5,8 @@ use Rattle.std.proofs.lemmas.List.{get_or-set_other, length-append, length-set, 
 use Rattle.warm_history.specs.ReferenceSets.{ReferenceSet, set_of_list, ◌∪◌}
 use Rattle.warm_machine.specs.Runs.{operation}
 use Rattle.warm_turn.specs.CallHistories.{as_spent}
-use Rattle.warm_shards.specs.Shards.{IsShardCount, of_shard}
-use Rattle.warm_shards.proofs.AreShardsLemmas.{some_count}
+use Rattle.warm_visits.specs.ShardNumbers.{IsShardCount, of_shard}
+use Rattle.warm_visits.proofs.ErrandLemmas.{some_count}
 use Rattle.warm_shard_machine.specs.declared.calls.ShardCall.{ShardCall}
 use Rattle.warm_shard_machine.specs.declared.calls.ShardCall.TheVariants.{Raise}
 use Rattle.warm_shard_machine.specs.declared.calls.ShardReply.{ShardReply}

@@ -9,7 +9,7 @@ use Rattle.warm_turn.specs.CallHistories.{as_spent}
 use Rattle.warm_turn.proofs.PassLemmas.{Extended-called, Widened-joined}
 use Rattle.warm_machine.specs.declared.operation.Operation.{Operation}
 use Rattle.warm_machine.specs.Runs.{Runs}
-use Rattle.warm_shards.specs.Visits.{Errand, Said}
+use Rattle.warm_visits.specs.Visits.{Errand, Said}
 use Rattle.warm_shard_machine.specs.declared.calls.ShardCall.{ShardCall}
 use Rattle.warm_shard_machine.specs.declared.calls.ShardCall.TheVariants.{Enter}
 use Rattle.warm_shard_machine.specs.declared.calls.ShardReply.{ShardReply}

@@ -1,7 +1,7 @@
 -- What a look in the shard of its page went as: it was given bytes, and never sent to another shard.
 use Rattle.std.proofs.Common.{◌≡◌, ℕ, List, subst}
 use Rattle.warm_stamps.specs.declared.PageId.{PageId}
-use Rattle.warm_shards.specs.Shards.{shard_of}
+use Rattle.warm_visits.specs.ShardNumbers.{shard_of}
 use Rattle.warm_shard_machine.specs.declared.calls.ShardCall.{ShardCall}
 use Rattle.warm_shard_machine.specs.declared.calls.ShardCall.TheVariants.{Look}
 use Rattle.warm_shard_machine.specs.declared.calls.ShardReply.{ShardReply}

@@ -5,10 +5,10 @@ use Rattle.warm_stamps.specs.declared.Reference.{Reference}
 use Rattle.warm_history.specs.ReferenceSets.{ReferenceSet, set_of_list, ◌∪◌}
 use Rattle.warm_machine.specs.declared.operation.Operation.{Operation}
 use Rattle.warm_machine.specs.Runs.{Runs}
-use Rattle.warm_shards.specs.Shards.{of_shard}
-use Rattle.warm_shards.specs.VisitParts.{raise_from}
-use Rattle.warm_shards.specs.Visits.{Errand, Said, VisitState, give_plan, next_shard, raise_plan, shard_next}
-use Rattle.warm_shards.proofs.VisitPlans.{raise_begun, raise_end, raise_here}
+use Rattle.warm_visits.specs.ShardNumbers.{of_shard}
+use Rattle.warm_visits.specs.Plans.{raise_from}
+use Rattle.warm_visits.specs.Visits.{Errand, Said, VisitState, give_plan, next_shard, raise_plan, shard_next}
+use Rattle.warm_visits.proofs.VisitPlans.{raise_begun, raise_end, raise_here}
 use Rattle.warm_concurrent.specs.Attached.{ShardPass}
 use Rattle.warm_concurrent.specs.Given.{only_horizon}
 use Rattle.warm_concurrent.specs.Visiting.{EntersByTurn, GoesByTurns, Visiting, visiting}

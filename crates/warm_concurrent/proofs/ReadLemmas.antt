@@ -8,8 +8,8 @@ use Rattle.warm_frames.specs.declared.message.Message.{Message}
 use Rattle.warm_machine.specs.declared.operation.Operation.{Operation}
 use Rattle.warm_machine.specs.Runs.{Runs}
 use Rattle.warm_peer.specs.Answers.{requested_buckets}
-use Rattle.warm_shards.specs.VisitLaws.{AreOwnErrands, EntersAny, IsOwnAsk}
-use Rattle.warm_shards.specs.Visits.{After, Ask, ComparesOffers, Errand, GathersOffer, Made, Said, Takes, VisitState, at_each, at_shard, compares, copied, copy_of, copy_visit, copying, ends, gathered, given, giving, goes_on, joined, offer_in, offer_visit, offered, offering, onward, refused, sending, sent, with_history}
+use Rattle.warm_visits.specs.Laws.{AreOwnErrands, EntersAny, IsOwnAsk}
+use Rattle.warm_visits.specs.Visits.{After, Ask, ComparesOffers, Errand, GathersOffer, Made, Said, Takes, VisitState, at_each, at_shard, compares, copied, copy_of, copy_visit, copying, ends, gathered, given, giving, goes_on, joined, offer_in, offer_visit, offered, offering, onward, refused, sending, sent, with_history}
 use Rattle.warm_shard_machine.specs.Entering.{gave_ask, gave_entry, gave_first}
 use Rattle.warm_shard_machine.specs.declared.calls.ShardCall.TheVariants.{Enter}
 use Rattle.warm_shard_machine.specs.declared.calls.ShardReply.TheVariants.{Entered}

@@ -8,8 +8,8 @@ use Rattle.warm_history.specs.References.{IsIn, SameReferences}
 use Rattle.warm_history.specs.Histories.{history}
 use Rattle.warm_history.proofs.JoinLemmas.{both_assoc, history_alike}
 use Rattle.warm_history.proofs.SetLemmas.{hist_of_set}
-use Rattle.warm_shards.specs.Shards.{of_shard, shard_of}
-use Rattle.warm_shards.proofs.Lists.{from_filter, in_both, in_filter, in_first, in_second}
+use Rattle.warm_visits.specs.ShardNumbers.{of_shard, shard_of}
+use Rattle.warm_visits.proofs.Lists.{from_filter, in_both, in_filter, in_first, in_second}
 use Rattle.warm_shard_machine.specs.Laws.{Log}
 use Rattle.warm_concurrent.specs.Given.{SameGiven, gave, gave_call}
 use Rattle.warm_concurrent.specs.Laws.{all_of}

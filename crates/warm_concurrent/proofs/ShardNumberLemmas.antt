@@ -2,7 +2,8 @@
 use Rattle.std.proofs.Common.{◌≡◌, ℕ, zero, suc, ◌+◌, ◌<◌, List, [], ◌∷◌, ◌++◌, length, refl, sym, ap, subst, ◌∙◌, arith}
 use Rattle.std.proofs.lemmas.List.{length-map}
 use Rattle.warm_gossip.specs.State.{NodeState}
-use Rattle.warm_shards.specs.Shards.{AreShards, IsShardCount, shard_at}
+use Rattle.warm_shards.specs.Shards.{AreShards, shard_at}
+use Rattle.warm_visits.specs.ShardNumbers.{IsShardCount}
 use Rattle.warm_concurrent.specs.Attached.{AreTurns, OpenedAs, ShardTurn, shard_turn}
 use Rattle.warm_concurrent.specs.Opening.{AreFirst, AreNumbered, openings, shards_from, shards_over, state_at}
 use Rattle.warm_shard_machine.specs.ShardSteps.{ShardState, shard_over}

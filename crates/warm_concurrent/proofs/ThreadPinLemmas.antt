@@ -7,7 +7,7 @@ use Rattle.warm_machine.specs.declared.operation.Operation.{Operation}
 use Rattle.warm_machine.specs.Runs.{Runs, operation}
 use Rattle.warm_turn.specs.declared.table.EndedPass.{EndedPass}
 use Rattle.warm_turn.specs.CallHistories.{as_ended}
-use Rattle.warm_shards.specs.Visits.{Errand, Said, VisitState}
+use Rattle.warm_visits.specs.Visits.{Errand, Said, VisitState}
 use Rattle.warm_shard_machine.specs.declared.calls.ShardCall.{ShardCall}
 use Rattle.warm_shard_machine.specs.declared.calls.ShardCall.TheVariants.{Enter, Pin, PinFilled, PinZeroed, Raise, Victim}
 use Rattle.warm_shard_machine.specs.declared.calls.ShardReply.{ShardReply}

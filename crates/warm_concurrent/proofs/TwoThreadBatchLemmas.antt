@@ -10,8 +10,8 @@ use Rattle.warm_machine.specs.declared.operation.Operation.{Operation}
 use Rattle.warm_turn.specs.CallHistories.{EachIsBy, HoldsNumber, IsAmong, as_ended, calls_by}
 use Rattle.warm_turn.specs.declared.fault.Busy.{Busy}
 use Rattle.warm_gossip.specs.State.{NodeState}
-use Rattle.warm_shards.specs.Shards.{IsShardCount}
-use Rattle.warm_shards.specs.Visits.{VisitState, absorb_visit}
+use Rattle.warm_visits.specs.ShardNumbers.{IsShardCount}
+use Rattle.warm_visits.specs.Visits.{VisitState, absorb_visit}
 use Rattle.warm_shard_machine.specs.declared.calls.ShardCall.{ShardCall}
 use Rattle.warm_shard_machine.specs.declared.calls.ShardReply.{ShardReply}
 use Rattle.warm_concurrent.specs.Attached.{Known, ShardPass, ShardTurn, known_of, opened_id}

@@ -6,11 +6,11 @@ use Rattle.warm_history.specs.ReferenceSets.{ReferenceSet, set_of_list}
 use Rattle.warm_machine.specs.declared.operation.Operation.{Operation}
 use Rattle.warm_machine.specs.Runs.{Runs}
 use Rattle.warm_gossip.specs.State.{NodeState}
-use Rattle.warm_shards.specs.Shards.{of_shard}
-use Rattle.warm_shards.specs.VisitParts.{give_from}
-use Rattle.warm_shards.specs.Visits.{Ask, Errand, NodeSays, Said, Takes, VisitState, at_shard, give_plan, given, giving, next_shard, refused, shard_next}
-use Rattle.warm_shards.proofs.VisitPlans.{give_end, give_here, give_past}
-use Rattle.warm_shards.proofs.VisitSweeps.{empty_or_not, give_all}
+use Rattle.warm_visits.specs.ShardNumbers.{of_shard}
+use Rattle.warm_visits.specs.Plans.{give_from}
+use Rattle.warm_visits.specs.Visits.{Ask, Errand, NodeSays, Said, Takes, VisitState, at_shard, give_plan, given, giving, next_shard, refused, shard_next}
+use Rattle.warm_visits.proofs.VisitPlans.{give_end, give_here, give_past}
+use Rattle.warm_visits.proofs.PlanGiven.{empty_or_not, give_all}
 use Rattle.warm_shard_machine.specs.Entering.{gave_ask, gave_entry, gave_first}
 use Rattle.warm_shard_machine.specs.declared.calls.ShardCall.TheVariants.{Enter}
 use Rattle.warm_shard_machine.specs.declared.calls.ShardReply.TheVariants.{Entered}

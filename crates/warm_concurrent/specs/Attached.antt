@@ -3,7 +3,7 @@ use Rattle.std.specs.Prelude.{◌≡◌, ℕ, ◌<◌, List, [], length, Some, s
 use Rattle.atomic_table.specs.Seated.{TableId}
 use Rattle.warm_turn.specs.CallHistories.{PassView, TurnView, nobody, turn_at}
 use Rattle.warm_turn.specs.declared.table.View.{View}
-use Rattle.warm_shards.specs.Shards.{IsShardCount}
+use Rattle.warm_visits.specs.ShardNumbers.{IsShardCount}
 use Rattle.warm_shard_machine.specs.declared.calls.ShardCall.{ShardCall}
 use Rattle.warm_shard_machine.specs.declared.calls.ShardReply.{ShardReply}
 use Rattle.warm_shard_machine.specs.ShardSteps.{ShardState, no_state}

@@ -6,7 +6,7 @@ use Rattle.warm_history.specs.Histories.{HistoryView, references_of}
 use Rattle.warm_rank.specs.Ranking.{hottest_pages}
 use Rattle.warm_frames.specs.declared.message.Message.{Message}
 use Rattle.warm_peer.specs.Answers.{IsAnswer}
-use Rattle.warm_shards.specs.Visits.{VisitState, copy_of, copy_visit}
+use Rattle.warm_visits.specs.Visits.{VisitState, copy_of, copy_visit}
 use Rattle.warm_concurrent.specs.declared.fault.SharedFault.{SharedFault}
 use Rattle.warm_concurrent.specs.Attached.{OpenedAs, ShardPass, ShardTurn, opened_id}
 use Rattle.warm_concurrent.specs.Visiting.{GoneThrough, VisitOrEndFails}

@@ -21,9 +21,10 @@ use Rattle.warm_turn.specs.Shares.{IsWhole}
 use Rattle.warm_peer.specs.Answers.{refs_in}
 use Rattle.warm_gossip.specs.State.{NodeState}
 use Rattle.warm_gossip.specs.Victims.{IsEvicted}
-use Rattle.warm_shards.specs.Shards.{AreShards, IsShardCount, of_first_shards, shard_at, whole}
-use Rattle.warm_shards.specs.Visits.{VisitState, absorb_visit, copy_visit, join_visit, offer_visit}
-use Rattle.warm_shards.specs.Visits.{receive_visit}
+use Rattle.warm_shards.specs.Shards.{AreShards, shard_at, whole}
+use Rattle.warm_visits.specs.ShardNumbers.{IsShardCount, of_first_shards}
+use Rattle.warm_visits.specs.Visits.{VisitState, absorb_visit, copy_visit, join_visit, offer_visit}
+use Rattle.warm_visits.specs.Visits.{receive_visit}
 use Rattle.warm_shard_machine.specs.declared.calls.ShardCall.{ShardCall}
 use Rattle.warm_shard_machine.specs.declared.calls.ShardCall.TheVariants.{Raise, Pin, Look}
 use Rattle.warm_shard_machine.specs.declared.calls.ShardCall.TheVariants.{Change, PinFilled}

@@ -1,7 +1,7 @@
 -- Exchanging histories: the messages that all shards take in, and what they offer and answer.
 use Rattle.std.specs.Prelude.{◌≡◌, ℕ, List, length, Some}
 use Rattle.warm_frames.specs.declared.message.Message.{Message}
-use Rattle.warm_shards.specs.Visits.{VisitState, answers_of, offer_in, offer_visit, receive_visit}
+use Rattle.warm_visits.specs.Visits.{VisitState, answers_of, offer_in, offer_visit, receive_visit}
 use Rattle.warm_concurrent.specs.declared.fault.SharedFault.{SharedFault}
 use Rattle.warm_concurrent.specs.Attached.{ShardPass}
 use Rattle.warm_concurrent.specs.Visiting.{GoneThrough, VisitOrEndFails}

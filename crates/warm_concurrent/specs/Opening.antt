@@ -7,7 +7,7 @@ use Rattle.warm_turn.specs.Shares.{IsWhole}
 use Rattle.warm_turn.specs.Rule.{AreWords, MarkShows}
 use Rattle.warm_gossip.specs.State.{NodeState}
 use Rattle.warm_gossip.specs.declared.fault.NodeFault.TheVariants.{Memory}
-use Rattle.warm_shards.specs.Shards.{IsShardCount}
+use Rattle.warm_visits.specs.ShardNumbers.{IsShardCount}
 use Rattle.warm_concurrent.specs.declared.fault.SharedFault.{SharedFault}
 use Rattle.warm_concurrent.specs.declared.fault.SharedFault.TheVariants.{Node, PinsHeld}
 use Rattle.warm_concurrent.specs.Attached.{Known, ShardPass, ShardTurn, known_of, shard_pass}

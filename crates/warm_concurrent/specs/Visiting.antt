@@ -3,8 +3,8 @@ use Rattle.std.specs.Prelude.{◌≡◌, ◌⊎◌, ℕ, ◌<◌, false, true, L
 use Rattle.warm_machine.specs.declared.operation.Operation.{Operation}
 use Rattle.warm_machine.specs.Runs.{Runs}
 use Rattle.warm_gossip.specs.declared.fault.NodeFault.TheVariants.{Memory}
-use Rattle.warm_shards.specs.VisitLaws.{AreOwnErrands, EntersAny}
-use Rattle.warm_shards.specs.Visits.{Errand, Said, VisitState, next_shard}
+use Rattle.warm_visits.specs.Laws.{AreOwnErrands, EntersAny}
+use Rattle.warm_visits.specs.Visits.{Errand, Said, VisitState, next_shard}
 use Rattle.warm_shard_machine.specs.Entering.{IsOnward}
 use Rattle.warm_shard_machine.specs.declared.calls.ShardCall.TheVariants.{Enter}
 use Rattle.warm_shard_machine.specs.declared.calls.ShardReply.TheVariants.{Entered}

@@ -17,7 +17,7 @@ use warm_history::History;
 use warm_history::laws::prove_is_history;
 use warm_peer::Peer;
 use warm_rank::warm_list;
-use warm_shards::Visit;
+use warm_visits::Visit;
 use warm_stamps::{PageList, ReplicaId};
 
 // The n hottest pages of a history.

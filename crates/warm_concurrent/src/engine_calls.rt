@@ -1,6 +1,6 @@
 //! What an engine asks of the pools of shards beside the calls of a node, in turns of the shards.
 ghost use Rattle.std.specs.Prelude.{◌≡◌, ◌≢◌, ◌<◌, ◌+◌, Err, length, IfErr, IfOk, OnErr, OnOk};
-ghost use Rattle.warm_shards.specs.Shards.{shard_of};
+ghost use Rattle.warm_visits.specs.ShardNumbers.{shard_of};
 ghost use Rattle.warm_concurrent.specs.Attached.{AreOf, AreTurns};
 ghost use Rattle.warm_concurrent.specs.Clauses.{CallEnds};
 ghost use Rattle.warm_concurrent.specs.Whole.{DoneFails, DoneFirst};
@@ -17,7 +17,8 @@ use std::sync::Wait;
 use warm_devices::PageDevice;
 use warm_pool::Slot;
 use warm_shard_machine::{Shard, ShardCall, ShardReply};
-use warm_shards::{ShardSlot, shard_of};
+use warm_shards::ShardSlot;
+use warm_visits::shard_of;
 use warm_stamps::PageId;
 use warm_turn::{Pass, Turn};
 

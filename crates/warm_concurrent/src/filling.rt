@@ -1,7 +1,7 @@
 //! Pinning a page whose bytes a thread has read with no turn held, in one turn of the page's shard.
 ghost use Rattle.std.specs.Prelude.{◌≡◌, ◌≢◌, ◌<◌, ◌+◌, Err, length, IfErr, IfOk, OnErr, OnOk};
 ghost use Rattle.warm_gossip.specs.declared.fault.NodeFault.TheVariants.{Memory};
-ghost use Rattle.warm_shards.specs.Shards.{shard_of};
+ghost use Rattle.warm_visits.specs.ShardNumbers.{shard_of};
 ghost use Rattle.warm_concurrent.specs.Attached.{AreOf, AreTurns};
 ghost use Rattle.warm_concurrent.specs.Clauses.{CallEnds};
 ghost use Rattle.warm_shard_machine.specs.Visits.{ClaimNothing};
@@ -17,7 +17,8 @@ use std::sync::Wait;
 use warm_devices::PageDevice;
 use warm_pool::Slot;
 use warm_shard_machine::{Filling, Shard, Went, tag_of};
-use warm_shards::{ShardSlot, shard_of};
+use warm_shards::ShardSlot;
+use warm_visits::shard_of;
 use warm_stamps::PageId;
 use warm_turn::{Pass, Turn};
 

@@ -5,7 +5,7 @@
 //! call of [`SharedShards`] is the worker's.
 ghost use Rattle.std.specs.Prelude.{◌≡◌, length, IfErr, OnErr, OnOk};
 ghost use Rattle.warm_refbuffer.specs.Buffered.{cleared};
-ghost use Rattle.warm_shards.specs.Visits.{absorb_visit};
+ghost use Rattle.warm_visits.specs.Visits.{absorb_visit};
 ghost use Rattle.warm_concurrent.specs.Attached.{AreOf, opened_id};
 ghost use Rattle.warm_concurrent.specs.Visiting.{IsGoneThrough, VisitFails};
 

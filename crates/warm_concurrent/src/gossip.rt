@@ -1,6 +1,6 @@
 //! Exchanging histories: what is offered and sent, what is taken in, and what is answered to it.
 ghost use Rattle.std.specs.Prelude.{◌≡◌, ◌<◌, length, IfErr, IfOk, OnOk};
-ghost use Rattle.warm_shards.specs.Visits.{join_visit, offer_visit};
+ghost use Rattle.warm_visits.specs.Visits.{join_visit, offer_visit};
 ghost use Rattle.warm_shard_machine.specs.ShardSteps.{shard_of_bucket};
 ghost use Rattle.warm_shard_machine.specs.declared.calls.ShardCall.TheVariants.{Send, SendSince};
 ghost use Rattle.warm_shard_machine.specs.declared.calls.ShardReply.TheVariants.{Portion, Sent};
@@ -19,7 +19,7 @@ use warm_frames::{BoxedMessage, Message, MessageList};
 use warm_history::History;
 use warm_peer::SentPortion;
 use warm_shard_machine::{Shard, ShardCall, ShardReply};
-use warm_shards::Visit;
+use warm_visits::Visit;
 use warm_stamps::{Bucket, PageId};
 use warm_turn::{Pass, Turn};
 

@@ -1,7 +1,7 @@
 //! The calls that take references in and forget them, shard by shard, and list a shard's hottest
 //! pages.
 ghost use Rattle.std.specs.Prelude.{◌≡◌, ◌<◌, length, IfErr, IfOk, OnOk};
-ghost use Rattle.warm_shards.specs.Visits.{absorb_visit};
+ghost use Rattle.warm_visits.specs.Visits.{absorb_visit};
 ghost use Rattle.warm_concurrent.specs.Attached.{AreOf, AreTurns, opened_id};
 ghost use Rattle.warm_concurrent.specs.Clauses.{CallEnds};
 ghost use Rattle.warm_shard_machine.specs.declared.calls.ShardCall.TheVariants.{Raise, WarmList};
@@ -17,7 +17,7 @@ use std::alloc::Global;
 use std::sync::Wait;
 use warm_devices::PageDevice;
 use warm_shard_machine::{Shard, ShardCall, ShardReply};
-use warm_shards::Visit;
+use warm_visits::Visit;
 use warm_stamps::{PageList, Reference};
 use warm_turn::{Pass, Turn};
 

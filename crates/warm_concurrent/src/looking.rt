@@ -1,7 +1,7 @@
 //! Looking at a page and changing it where it lies, each in one turn of its shard.
 ghost use Rattle.std.specs.Prelude.{◌≡◌, ◌<◌, length, IfErr, IfOk};
 ghost use Rattle.std.specs.Fn.{FnOnceReturnsAt, FnOnceReturnsAtMut};
-ghost use Rattle.warm_shards.specs.Shards.{shard_of};
+ghost use Rattle.warm_visits.specs.ShardNumbers.{shard_of};
 ghost use Rattle.warm_concurrent.specs.Attached.{AreOf, AreTurns};
 ghost use Rattle.warm_concurrent.specs.Clauses.{CallFails};
 ghost use Rattle.warm_concurrent.specs.Looking.{ChangesPageAt, LooksAt};
@@ -12,7 +12,7 @@ use crate::shared::{Attached, SharedShards, visit_or_back};
 use std::sync::Wait;
 use warm_devices::PageDevice;
 use warm_shard_machine::{Changing, Looking, Place, Shard, Went};
-use warm_shards::shard_of;
+use warm_visits::shard_of;
 use warm_stamps::PageId;
 use warm_turn::{Pass, Turn};
 

@@ -1,7 +1,7 @@
 //! The calls on the pool of one shard, each in one turn of that shard.
 ghost use Rattle.std.specs.Prelude.{◌≡◌, ◌≢◌, ◌<◌, ◌+◌, Err, length, IfErr, IfOk, OnErr, OnOk};
 ghost use Rattle.warm_gossip.specs.declared.fault.NodeFault.TheVariants.{Memory};
-ghost use Rattle.warm_shards.specs.Shards.{shard_of};
+ghost use Rattle.warm_visits.specs.ShardNumbers.{shard_of};
 ghost use Rattle.warm_concurrent.specs.Attached.{AreOf, AreTurns};
 ghost use Rattle.warm_concurrent.specs.Clauses.{CallEnds, SlotCallEnds, shard_done};
 ghost use Rattle.warm_shard_machine.specs.ShardSteps.{IsDoneCall};
@@ -23,7 +23,8 @@ use warm_pool::Slot;
 use warm_shard_machine::{
     Pinning, ReadInto, Reading, Shard, ShardCall, ShardReply, Unpinning, Went,
 };
-use warm_shards::{ShardSlot, shard_of};
+use warm_shards::ShardSlot;
+use warm_visits::shard_of;
 use warm_stamps::{ByteList, PageId};
 use warm_turn::{Pass, Turn};
 

@@ -1,6 +1,6 @@
 //! Shards that threads share, and what each thread has of them.
 ghost use Rattle.std.specs.Prelude.{◌≡◌, ◌<◌, length, IfErr, IfOk, OnErr};
-ghost use Rattle.warm_shards.specs.Shards.{IsShardCount, shard_of};
+ghost use Rattle.warm_visits.specs.ShardNumbers.{IsShardCount, shard_of};
 ghost use Rattle.warm_concurrent.specs.Attached.{AreOf, AreTurns, OpenedAs, opened_id};
 ghost use Rattle.warm_concurrent.specs.Clauses.{AnsweredByShard, Spent};
 ghost use Rattle.warm_concurrent.specs.declared.fault.SharedFault.TheVariants.{TurnsSpent};
@@ -13,7 +13,7 @@ use std::marker::Model;
 use std::sync::Wait;
 use warm_devices::PageDevice;
 use warm_shard_machine::{Shard, ShardCall, ShardReply};
-use warm_shards::shard_of;
+use warm_visits::shard_of;
 use warm_stamps::{PageId, ReplicaId};
 use warm_turn::{Pass, Turn, Visit};
 

@@ -7,7 +7,7 @@ ghost use Rattle.warm_concurrent.specs.Visiting.{EntryFails, GoneThrough, IsVisi
 ghost use Rattle.warm_concurrent.specs.Visiting.{VisitStops};
 ghost use Rattle.warm_concurrent.specs.declared.fault.SharedFault.TheVariants.{Node};
 ghost use Rattle.warm_gossip.specs.declared.fault.NodeFault.TheVariants.{Memory};
-ghost use Rattle.warm_shards.specs.Visits.{VisitState};
+ghost use Rattle.warm_visits.specs.Visits.{VisitState};
 
 use crate::fault::SharedFault;
 use crate::shared::{Attached, SharedShards, visit_or_back};
@@ -15,7 +15,7 @@ use std::sync::Wait;
 use warm_devices::PageDevice;
 use warm_gossip::NodeFault;
 use warm_shard_machine::{Entering, Place, Shard};
-use warm_shards::Visit;
+use warm_visits::Visit;
 use warm_turn::{Pass, Turn};
 
 /// Where a call of the whole stopped, and why: the errands of the call before this one were run, in

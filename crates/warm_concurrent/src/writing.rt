@@ -2,7 +2,7 @@
 //! own, or some.
 ghost use Rattle.std.specs.Prelude.{◌≡◌, ◌<◌, length, IfErr, OnOk};
 ghost use Rattle.warm_concurrent.specs.Attached.{AreOf, AreTurns};
-ghost use Rattle.warm_shards.specs.Shards.{shard_of};
+ghost use Rattle.warm_visits.specs.ShardNumbers.{shard_of};
 ghost use Rattle.warm_concurrent.specs.Clauses.{CallEnds, shard_done};
 ghost use Rattle.warm_concurrent.specs.Whole.{DoneFails, DoneFirst, ShardsWriteBack};
 ghost use Rattle.warm_concurrent.specs.Whole.{WriteBackStopsAt};
@@ -20,7 +20,7 @@ use crate::visiting::Stopped;
 use std::sync::Wait;
 use warm_devices::PageDevice;
 use warm_shard_machine::{Shard, ShardCall, ShardReply};
-use warm_shards::shard_of;
+use warm_visits::shard_of;
 use warm_stamps::PageId;
 use warm_turn::{Pass, Turn};
 

@@ -9,8 +9,8 @@ use Rattle.warm_pool.specs.View.{view_of}
 use Rattle.warm_gossip.specs.Clauses.{SameView}
 use Rattle.warm_gossip.specs.State.{NodeState, NodeView, node_view}
 use Rattle.warm_shards.specs.Shards.{HoldsPagesOf, HoldsShard}
-use Rattle.warm_shards.specs.VisitLaws.{AreOwnErrands, IsOwnAsk}
-use Rattle.warm_shards.specs.Visits.{Ask, Errand, HasEntered, NodeSays, Said, Takes, VisitState, copied, copying, given, giving, offered, offering, refused, sending, sent}
+use Rattle.warm_visits.specs.Laws.{AreOwnErrands, IsOwnAsk}
+use Rattle.warm_visits.specs.Visits.{Ask, Errand, HasEntered, NodeSays, Said, Takes, VisitState, copied, copying, given, giving, offered, offering, refused, sending, sent}
 use Rattle.warm_shards.proofs.Calls.{takes_own}
 use Rattle.warm_shards.proofs.VisitLemmas.{named}
 use Rattle.warm_shard_machine.specs.Laws.{ErrandsAreCalls}

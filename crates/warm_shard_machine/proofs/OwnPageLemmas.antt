@@ -21,7 +21,8 @@ use Rattle.warm_gossip.specs.Clauses.{NodeWriteBackFails, SameView}
 use Rattle.warm_gossip.specs.Engine.{AsksPool, KeepsKnown}
 use Rattle.warm_gossip.specs.State.{NodeState, node_view}
 use Rattle.warm_shards.specs.Laws.{BringsOwn}
-use Rattle.warm_shards.specs.Shards.{HasPagesOf, HoldsPagesOf, HoldsShard, shard_of}
+use Rattle.warm_shards.specs.Shards.{HasPagesOf, HoldsPagesOf, HoldsShard}
+use Rattle.warm_visits.specs.ShardNumbers.{shard_of}
 use Rattle.warm_shards.proofs.EngineCalls.{flushed_own, forgotten_own, page_own, retired_own, same_own, zeroed_own}
 use Rattle.warm_shards.proofs.HoldsPagesLemmas.{failures_stay, steps_stay}
 use Rattle.warm_shard_machine.specs.declared.calls.ShardCall.{ShardCall}

@@ -1,8 +1,8 @@
 -- A visit of all shards in one turn of a shard: what it must be, what it leaves, and what it gave.
 use Rattle.std.specs.Prelude.{◌≡◌, ℕ, ◌<◌, Bool, true, false, List, [], ◌∷◌, Some}
 use Rattle.warm_history.specs.ReferenceSets.{ReferenceSet, set_of_list}
-use Rattle.warm_shards.specs.VisitLaws.{AreOwnErrands}
-use Rattle.warm_shards.specs.Visits.{Ask, Errand, VisitState, entries_left, giving, next_shard}
+use Rattle.warm_visits.specs.Laws.{AreOwnErrands}
+use Rattle.warm_visits.specs.Visits.{Ask, Errand, VisitState, entries_left, giving, next_shard}
 
 -- the visit goes to so many shards, next to that of this number, and asks of each what is of its
 -- pages alone

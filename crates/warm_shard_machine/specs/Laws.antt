@@ -16,8 +16,8 @@ use Rattle.warm_gossip.specs.Clauses.{Goes}
 use Rattle.warm_gossip.specs.Given.{given_by_call}
 use Rattle.warm_gossip.specs.State.{NodeState}
 use Rattle.warm_peer.specs.Answers.{refs_in}
-use Rattle.warm_shards.specs.Given.{at_horizon}
-use Rattle.warm_shards.specs.Visits.{NodeSays, given, giving, offered, offering, refused}
+use Rattle.warm_visits.specs.Given.{at_horizon}
+use Rattle.warm_visits.specs.Visits.{NodeSays, given, giving, offered, offering, refused}
 use Rattle.warm_shard_machine.specs.declared.calls.ShardCall.{ShardCall}
 use Rattle.warm_shard_machine.specs.declared.calls.ShardReply.{ShardReply}
 use Rattle.warm_shard_machine.specs.declared.calls.ShardReply.TheVariants.{Changed, Done, Foreign}

@@ -29,8 +29,9 @@ use Rattle.warm_peer.specs.Since.{HasMoreSince, sent_since}
 use Rattle.warm_gossip.specs.Engine.{KeepsKnown}
 use Rattle.warm_gossip.specs.State.{NodeState, node_view}
 use Rattle.warm_gossip.specs.Step.{IsNextWarm}
-use Rattle.warm_shards.specs.Shards.{no_shard, shard_of}
-use Rattle.warm_shards.specs.Visits.{HasEntered, VisitState}
+use Rattle.warm_shards.specs.Shards.{no_shard}
+use Rattle.warm_visits.specs.ShardNumbers.{shard_of}
+use Rattle.warm_visits.specs.Visits.{HasEntered, VisitState}
 use Rattle.warm_shard_machine.specs.declared.calls.ShardCall.{ShardCall}
 use Rattle.warm_shard_machine.specs.declared.calls.ShardCall.TheVariants.{Raise, Pin, Unpin}
 use Rattle.warm_shard_machine.specs.declared.calls.ShardCall.TheVariants.{Read, Write, Victim}

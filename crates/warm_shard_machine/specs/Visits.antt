@@ -16,7 +16,7 @@ use Rattle.warm_shard_machine.specs.declared.visitors.Went.{Went}
 use Rattle.warm_shard_machine.specs.declared.visitors.Went.TheVariants as went
 use Rattle.warm_shard_machine.specs.Entering.{IsOnward}
 use Rattle.warm_shard_machine.specs.ToldDevices.{IsTold}
-use Rattle.warm_shards.specs.Visits.{VisitState}
+use Rattle.warm_visits.specs.Visits.{VisitState}
 
 -- `so` holds of the bytes that the reply shows
 abbrev pub Shows : (List ℕ → Type 0) → ShardReply → Type 0

@@ -1,6 +1,6 @@
 //! One shard as a machine that threads share by turns.
 ghost use Rattle.std.specs.Prelude.{◌≡◌, ◌↔◌, IsTrue};
-ghost use Rattle.warm_shards.specs.Shards.{IsShardCount, shard_of};
+ghost use Rattle.warm_visits.specs.ShardNumbers.{IsShardCount, shard_of};
 ghost use Rattle.warm_shard_machine.specs.ShardSteps.{AnsweredAs, IsOwn, ShardStep};
 ghost use Rattle.warm_shard_machine.specs.declared.calls.ShardCall.TheVariants.{Change};
 ghost use Rattle.warm_shard_machine.specs.declared.calls.ShardCall.TheVariants.{Look};
@@ -21,7 +21,7 @@ use warm_frames::BoxedMessage;
 use warm_gossip::{Node, NodeFault};
 use warm_peer::SentPortion;
 use warm_pool::Slot;
-use warm_shards::shard_of;
+use warm_visits::shard_of;
 use warm_stamps::{Bucket, ByteList, PageId};
 use warm_turn::Machine;
 
@@ -50,7 +50,7 @@ impl<D: PageDevice> Drop for Shard<D> {
 }
 
 impl<D: PageDevice> Model for Shard<D> {
-    ghost use Rattle.warm_shards.specs.Shards.{IsShardCount};
+    ghost use Rattle.warm_visits.specs.ShardNumbers.{IsShardCount};
     ghost use Rattle.warm_shard_machine.specs.ShardSteps.{ShardState};
 
     ghost Value = { ShardState };

@@ -3,7 +3,7 @@ ghost use Rattle.std.specs.Prelude.{◌≡◌};
 
 use std::marker::Model;
 use std::snapshot::Snapshot;
-use warm_shards::Visit;
+use warm_visits::Visit;
 
 /// A visit of all shards, as contracts see it. It has no bytes.
 #[derive(Drop)]
@@ -12,7 +12,7 @@ pub struct ToldVisit {
 }
 
 impl Model for ToldVisit {
-    ghost use Rattle.warm_shards.specs.Visits.{VisitState};
+    ghost use Rattle.warm_visits.specs.Visits.{VisitState};
 
     ghost Value = { VisitState };
 

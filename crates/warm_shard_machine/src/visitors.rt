@@ -1,7 +1,7 @@
 //! The visitors of a shard: each has the shard for one turn.
 ghost use Rattle.std.specs.Prelude.{◌≡◌, ℕ, List, None, length};
 ghost use Rattle.std.specs.Fn.{FnOnceReturnsAt, FnOnceReturnsAtMut};
-ghost use Rattle.warm_shards.specs.Shards.{shard_of};
+ghost use Rattle.warm_visits.specs.ShardNumbers.{shard_of};
 ghost use Rattle.warm_shard_machine.specs.Visits.{ReadsInto, Shows, ShowsBoth, VisitWentAs};
 ghost use Rattle.warm_shard_machine.specs.ShardSteps.{ShardStep};
 ghost use Rattle.warm_shard_machine.specs.declared.calls.ShardCall.TheVariants.{Change, Look, Pin};
@@ -185,7 +185,7 @@ pub struct Looking<F> {
 impl<D: PageDevice + Send, T, F: FnOnce(&[u8]) -> T + Drop> Visit<Shard<D>> for Looking<F> {
     ghost use Rattle.std.specs.Prelude.{◌≡◌};
     ghost use Rattle.std.specs.Fn.{FnOnceReturnsAt};
-    ghost use Rattle.warm_shards.specs.Shards.{shard_of};
+    ghost use Rattle.warm_visits.specs.ShardNumbers.{shard_of};
     ghost use Rattle.warm_shard_machine.specs.Visits.{Shows, VisitWentAs};
     ghost use Rattle.warm_shard_machine.specs.declared.calls.ShardCall.TheVariants.{Look};
 

@@ -6,7 +6,8 @@ use test_kit::{history_of_pages, references_to, replica};
 use warm_devices::MemDevice;
 use warm_frames::Message;
 use warm_gossip::NodeFault;
-use warm_shards::{Shards, is_shard_count, parts_of};
+use warm_shards::Shards;
+use warm_visits::{is_shard_count, parts_of};
 use warm_stamps::Bucket;
 
 pub(crate) type TwoShards = Shards<MemDevice>;

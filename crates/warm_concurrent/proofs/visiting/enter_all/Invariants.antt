@@ -1,5 +1,5 @@
 use Rattle.std.proofs.Common.{length}
-use Rattle.warm_shards.specs.Visits.{entries_left}
+use Rattle.warm_visits.specs.Visits.{entries_left}
 use Rattle.warm_concurrent.specs.Attached.{AreOf}
 use Rattle.warm_concurrent.specs.Visiting.{GoesByTurns, IsVisitOf}
 use Rattle.warm_concurrent.proofs.visiting.enter_all.Given as goal

@@ -1,6 +1,6 @@
 use Rattle.std.proofs.Common.{◌≡◌, length, refl, sym, subst, ◌∙◌, arith}
 use Rattle.std.specs.Prelude.{Option}
-use Rattle.warm_shards.specs.Visits.{VisitState}
+use Rattle.warm_visits.specs.Visits.{VisitState}
 use Rattle.warm_shard_machine.specs.Entering.{IsNextAt}
 use Rattle.warm_shard_machine.specs.ShardSteps.{MayAnswer}
 use Rattle.warm_shard_machine.specs.Visits.{EntersAs}

@@ -1,5 +1,5 @@
 use Rattle.std.proofs.Common.{◌≡◌, length, refl, sym, subst, ◌∙◌}
-use Rattle.warm_shards.specs.Visits.{VisitState, copy_visit, copying}
+use Rattle.warm_visits.specs.Visits.{VisitState, copy_visit, copying}
 use Rattle.warm_concurrent.specs.Attached.{opened_id}
 use Rattle.warm_concurrent.specs.Visiting.{GoneThrough}
 use Rattle.warm_concurrent.proofs.EntryLemmas.{visits}

@@ -1,6 +1,6 @@
 use Rattle.std.proofs.Common.{length, refl}
-use Rattle.warm_shards.specs.Visits.{join_visit}
-use Rattle.warm_shards.proofs.VisitErrands.{errands_are_own}
+use Rattle.warm_visits.specs.Visits.{join_visit}
+use Rattle.warm_visits.proofs.VisitErrands.{errands_are_own}
 use Rattle.warm_concurrent.proofs.EntryLemmas.{visits}
 use Rattle.warm_concurrent.proofs.shared.SharedShards.join.Goals as goal
 

@@ -1,6 +1,6 @@
 use Rattle.std.proofs.Common.{◌≡◌, ◌<◌, List, length, set, sym, ap, subst, ◌∙◌, arith}
 use Rattle.std.specs.Fn.{FnOnceReturnsAt}
-use Rattle.warm_shards.specs.Shards.{shard_of}
+use Rattle.warm_visits.specs.ShardNumbers.{shard_of}
 use Rattle.warm_concurrent.specs.Attached.{AreOf, AttachedView, ShardTurn, no_pass, shard_pass}
 use Rattle.warm_concurrent.specs.Looking.{LooksAt}
 use Rattle.warm_shard_machine.specs.Visits.{Shows}

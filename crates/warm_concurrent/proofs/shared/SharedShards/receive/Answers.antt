@@ -1,6 +1,6 @@
 use Rattle.std.proofs.Common.{◌≡◌, inr, length, sym, subst, ◌∙◌}
-use Rattle.warm_shards.specs.Visits.{VisitState, receive_visit}
-use Rattle.warm_shards.proofs.VisitErrands.{errands_are_own}
+use Rattle.warm_visits.specs.Visits.{VisitState, receive_visit}
+use Rattle.warm_visits.proofs.VisitErrands.{errands_are_own}
 use Rattle.warm_concurrent.specs.Attached.{opened_id}
 use Rattle.warm_concurrent.specs.Visiting.{GoneThrough}
 use Rattle.warm_concurrent.proofs.EntryLemmas.{received_count, received_well, visits}
