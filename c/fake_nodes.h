@@ -415,9 +415,19 @@ int node_last_failure(node *of, bool *found, node_failure *failure) {
 
 /* ---- histories and frames ---- */
 
+/* One of the caller's, which is of another type (layouts.h): it is copied, since the fake is in one
+ * unit with it. */
+static node_reference fake_reference(const node_reference *references, size_t at) {
+    node_reference copied;
+    memcpy(&copied, &references[at], sizeof copied);
+    return copied;
+}
+
 static bool fake_replicas(const node_reference *references, size_t count) {
-    for (size_t at = 0; at < count; at++)
-        if (references[at].replica == 0 || references[at].replica > 64) return false;
+    for (size_t at = 0; at < count; at++) {
+        uint16_t replica = fake_reference(references, at).replica;
+        if (replica == 0 || replica > 64) return false;
+    }
     return true;
 }
 
@@ -437,8 +447,10 @@ int node_history_length(node *of, size_t *length) {
 static int fake_list(size_t known, node_page *pages, size_t room, size_t *count) {
     if (!fake_memory()) return WARM_MEMORY;
     *count = known < room ? known : room;
-    for (size_t at = 0; at < *count; at++)
-        pages[at] = (node_page){.no = at + 1, .dev = (uint16_t)(at + 7)};
+    for (size_t at = 0; at < *count; at++) {
+        const node_page page = {.no = at + 1, .dev = (uint16_t)(at + 7)};
+        memcpy(&pages[at], &page, sizeof page); /* so is a page of the caller's */
+    }
     return WARM_OK;
 }
 
@@ -465,6 +477,9 @@ static int fake_save(size_t known, int number) {
 
 int node_save(node *of, int number) { return fake_out(of, fake_save(fake_in(of)->known, number)); }
 
+/* The horizon of a dump. */
+enum { FAKE_DUMPED = 2 };
+
 /* A dump has as many references as its length says; of a device with its own calls its last byte is
  * read. */
 static bool fake_get_dump(int number, uint64_t length) {
@@ -482,7 +497,10 @@ static int fake_load(size_t *known, int number, uint64_t length) {
 }
 
 int node_load(node *of, int number, uint64_t length) {
-    return fake_out(of, fake_load(&fake_in(of)->known, number, length));
+    fake *its = fake_in(of);
+    int status = fake_load(&its->known, number, length);
+    if (status == WARM_OK && its->horizon < FAKE_DUMPED) its->horizon = FAKE_DUMPED;
+    return fake_out(of, status);
 }
 
 static int fake_put(
@@ -595,8 +613,10 @@ int visit_absorb(visit *of, const node_reference *references, size_t count) {
     void *block = malloc(1);
     if (block == NULL) return WARM_MEMORY;
     fake_visit *its = fake_begin(of, FAKE_GIVING, block);
-    for (size_t at = 0; at < count; at++)
-        its->each[(references[at].dev + references[at].no) % its->shards]++;
+    for (size_t at = 0; at < count; at++) {
+        node_reference one = fake_reference(references, at);
+        its->each[(one.dev + one.no) % its->shards]++;
+    }
     return WARM_OK;
 }
 
@@ -615,7 +635,9 @@ int visit_offer(visit *of) {
 }
 
 int visit_copy(visit *of) {
-    fake_begin(of, FAKE_COPYING, NULL);
+    void *block = malloc(1);
+    if (block == NULL) return WARM_MEMORY;
+    fake_begin(of, FAKE_COPYING, block);
     return WARM_OK;
 }
 
@@ -628,15 +650,18 @@ int visit_load(visit *of, int number, uint64_t length) {
     if (block == NULL) return WARM_MEMORY;
     fake_visit *its = fake_begin(of, FAKE_GIVING, block);
     its->rising = 0;
+    its->time = FAKE_DUMPED;
     for (size_t number_of = 0; number_of < its->shards; number_of++)
         its->each[number_of] = read / its->shards;
     return WARM_OK;
 }
 
-/* Entries are one of shard 0 and, if there are two, one of shard 2, where there is that shard. */
+/* Entries are one of shard 0 and, if there are two, one of shard 2, if there is that shard. */
 int visit_receive(visit *of, const node_limits *limits, const uint8_t *frame, size_t length) {
     static const fake_work works[] = {FAKE_NOTHING, FAKE_GIVING, FAKE_OFFERING, FAKE_SENDING};
     if (length < 10) return WARM_TRUNCATED;
+    MUST(frame[0] >= FAKE_ENTRIES && frame[0] <= FAKE_REQUEST);
+    MUST(frame[0] != FAKE_DIGESTS || length >= 66);
     size_t entries = frame[0] == FAKE_ENTRIES ? (size_t)frame[3] << 8 | frame[4] : 0;
     if (frame[1] > limits->time || frame[1] > limits->horizon) return WARM_LATE_HORIZON;
     if (entries > 0 && (limits->known > limits->pages || entries > limits->pages - limits->known))
@@ -689,15 +714,26 @@ static void fake_offer(fake_visit *its, const fake *in) {
 static void fake_send_next(fake_visit *its, const fake *in) {
     uint8_t bucket = (uint8_t)__builtin_ctzll(its->buckets);
     if (in->known > 0) {
-        fake_send(in, bucket, its->message, sizeof its->message, &its->length);
+        its->is_stopped =
+            fake_send(in, bucket, its->message, sizeof its->message, &its->length) != WARM_OK;
+        if (its->is_stopped) return;
         its->second = !its->second;
     }
     if (!its->second) its->buckets &= its->buckets - 1;
 }
 
+/* The copy has a block from the first shard on. */
+static void fake_copy(fake_visit *its, const fake *in) {
+    if (its->block == NULL) its->block = malloc(1);
+    its->is_stopped = its->block == NULL;
+    if (its->is_stopped) return;
+    its->at++;
+    its->copied += in->known;
+}
+
 static void fake_work_in(fake_visit *its, fake *in) {
     if (its->work == FAKE_GIVING) in->known += its->each[its->at++];
-    if (its->work == FAKE_COPYING) its->at++, its->copied += in->known;
+    if (its->work == FAKE_COPYING) fake_copy(its, in);
     if (its->work == FAKE_SENDING)
         fake_send_next(its, in);
     else if (its->work == FAKE_OFFERING)
@@ -750,9 +786,13 @@ int visit_message(visit *of, uint8_t *frame, size_t room, size_t *length) {
 }
 
 int visit_list(visit *of, node_page *pages, size_t room, size_t *count) {
-    return fake_list(fake_visit_of(of)->copied, pages, room, count);
+    const fake_visit *its = fake_visit_of(of);
+    return its->work == FAKE_COPYING ? fake_list(its->copied, pages, room, count) : WARM_CLOSED;
 }
 
-int visit_save(visit *of, int number) { return fake_save(fake_visit_of(of)->copied, number); }
+int visit_save(visit *of, int number) {
+    const fake_visit *its = fake_visit_of(of);
+    return its->work == FAKE_COPYING ? fake_save(its->copied, number) : WARM_CLOSED;
+}
 
 #endif

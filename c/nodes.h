@@ -113,7 +113,7 @@ int node_next_dirty(node *handle, size_t from, bool *found, size_t *frame, node_
 
 /* Writes the frame of the first 1000 entries of a bucket, of those with a stamp from the time since
  * on and, if has_after, of a page greater than after; its length; how many entries it has; whether
- * more of them follow; and the page of the last one. Where there is none, last is as it was.
+ * more of them follow; and the page of the last one. If there is none, last is as it was.
  * Refused: WARM_BAD_BUCKET; WARM_MEMORY; WARM_BUFFER_TOO_SMALL: length is then the room that it
  * needs. */
 int node_send_since(node *handle, uint8_t bucket, uint64_t since, bool has_after, node_page after,
@@ -129,13 +129,17 @@ int node_may_forget(node *handle, uint16_t dev, uint64_t from);
 int node_may_replace(node *handle, uint16_t dev, const node_device *device);
 
 /*
- * Visits. A call of a whole replica is a visit: it names the shard that it wants next, and is let
+ * Visits. A call of a whole history is a visit: it names the shard that it wants next, and is let
  * in there. The shard of a page is its bucket (docs/FORMATS.md), modulo the number of shards.
  * Whoever has the locks makes one loop:
  *
  *     while (visit_next(of, &number)) visit_enter(of, node of this shard);
  *
  * A handle has one visit after the other. Between two of them it is idle.
+ *
+ * Some calls are no visits. warm_history_length adds up what the nodes say. warm_send is of one
+ * bucket, and warm_absorb may be of one reference. If there is one shard, warm_absorb and warm_list
+ * are calls of its node, and so are warm_save and warm_load by the only handle.
  */
 
 /* A handle of visits. All zeros is a closed one. It does not move while it is open, but may be used
@@ -145,8 +149,8 @@ typedef struct visit {
     void *at;
 } visit;
 
-/* Opens a closed handle of visits of this replica, in so many shards. Only this call and those that
- * say so may be refused with WARM_MEMORY.
+/* Opens a closed handle of visits of this replica, in this many shards. Only this call and those
+ * that say so may be refused with WARM_MEMORY.
  * Refused: WARM_ALREADY_OPEN; WARM_BAD_REPLICA; WARM_BAD_SHARDS; WARM_MEMORY. */
 int visit_open(visit *handle, uint16_t replica, size_t shards);
 void visit_close(visit *handle);
@@ -154,14 +158,14 @@ void visit_close(visit *handle);
 /* Begin a visit, in place of the one before: to absorb references; to raise the horizon of each
  * shard; to offer; to copy the histories of all shards and join the copies.
  * Refused, and the visit before is kept: visit_absorb with WARM_BAD_REPLICA and WARM_MEMORY;
- * visit_offer with WARM_MEMORY. */
+ * visit_offer and visit_copy with WARM_MEMORY. */
 int visit_absorb(visit *handle, const node_reference *references, size_t count);
 int visit_raise(visit *handle, uint64_t time);
 int visit_offer(visit *handle);
 int visit_copy(visit *handle);
 
 /* What a message is refused by: times later than time, a horizon later than horizon, and entries
- * with which a history that knows so many pages could know more than pages. */
+ * with which a history that knows this many pages (known) could know more than pages. */
 typedef struct node_limits {
     uint64_t time, horizon;
     size_t pages, known;
@@ -188,7 +192,8 @@ void visit_enter(visit *handle, node *in);
  * goes on where it stopped, if it is let in again. */
 int visit_status(visit *handle);
 
-/* Writes the earliest horizon that a shard has, of a visit that raised them. */
+/* Writes the earliest horizon that a shard has, of a visit that visit_raise began. Of any other it
+ * is as it was. */
 int visit_kept(visit *handle, uint64_t *horizon);
 
 /* Hands out what was offered, or the next message of the answers: writes its frame, and its length;

@@ -105,8 +105,11 @@ typedef struct opened {
     bool has_failed;
     node_failure failure; /* of a device, in a call of the handle, the last one; if has_failed */
     uint64_t failed;      /* how many were in that call, or were skipped */
-    visit calls;   /* of the whole, one after the other; idle between two */
-    visit answers; /* to the message that was received last, as far as they wait */
+    visit calls; /* of the whole, one after the other; idle between two */
+    /* What waits of the answers to the message that was received last: which buckets are to be
+     * sent, and the next answer. Nothing answers entries, but their copies are here, too. All is
+     * kept until warm_next_answer finds no answer, another message is received, or the close. */
+    visit answers;
     void *block;
     /* bit i: a portion has passed the page in frame i of its shard, which another call was writing;
      * 0 between portions. It is behind the devices' bits */
@@ -132,7 +135,7 @@ static inline size_t bytes_of_devices(const replica *of) { return (of->device_co
 /* Of a shard. */
 static inline size_t bytes_of_frames(const replica *of) { return (of->frames / of->count + 7) / 8; }
 
-/* As shard_of of crates/warm_shards has it: the page's bucket, (dev + no) modulo 64, modulo the
+/* As shard_of of crates/warm_visits has it: the page's bucket, (dev + no) modulo 64, modulo the
  * number of shards, which is a power of two up to 64. The proved part is not asked, so that a hit
  * makes no call. */
 static inline size_t number_of(const opened *its, node_page page) {

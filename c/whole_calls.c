@@ -1,8 +1,9 @@
 /*
  * whole_calls.c: the calls of include/warm.h on a whole replica: its history, its messages, its
- * devices and what it has counted. What a call of the history does, and in which shard, a visit
- * decides, which is proved (nodes.h): here it is let into one shard after the other. Nothing here
- * is proved; c/check tests it.
+ * devices and what it has counted. A call of the whole history is a visit, but for those that
+ * nodes.h names, which are calls of nodes. A visit, which is proved, decides what is done in which
+ * shard: here it is let into one shard after the other. What is counted is added up here. Nothing
+ * here is proved; c/check tests it.
  */
 #define _POSIX_C_SOURCE 200809L /* pthread_mutex_t */
 #include "shards.h"
@@ -32,22 +33,33 @@ static int end_visit(opened *its, int status) {
 
 /* ---- history ---- */
 
+/* A reference of the caller's is one of the proved part (layouts.h), which alone reads it as that:
+ * a compiler may take what is written as one type and read as another for two objects. */
+static const node_reference *references_in(const warm_reference *references) {
+    return (const node_reference *)references;
+}
+
 /* References of one shard, that of the first of them, are a call of its node, as a pin is. */
-static int absorb_in_one(opened *its, const node_reference *batch, size_t count) {
-    shard *in = shard_of(its, (node_page){.no = batch->no, .dev = batch->dev});
+static int absorb_in_one(opened *its, const warm_reference *references, size_t count) {
+    shard *in = shard_of(its, (node_page){.no = references->no, .dev = references->dev});
     bool is_locked = enter(its, in);
-    int status = node_absorb(&in->node, batch, count);
+    int status = node_absorb(&in->node, references_in(references), count);
     leave(in, is_locked);
     return status;
 }
 
-/* A reference of the caller's is one of the proved part (layouts.h). */
+static int absorb_in_all(opened *its, const warm_reference *references, size_t count) {
+    int begun = visit_absorb(&its->calls, references_in(references), count);
+    return end_visit(its, visit_shards(its, begun));
+}
+
+/* An empty batch needs no memory. */
 int warm_absorb(warm *handle, const warm_reference *references, size_t count) {
     opened *its = handle->at;
-    const node_reference *batch = (const node_reference *)references;
     if (its == NULL) return WARM_CLOSED;
-    if (count == 1 || (count > 0 && its->count == 1)) return absorb_in_one(its, batch, count);
-    return end_visit(its, visit_shards(its, visit_absorb(&its->calls, batch, count)));
+    if (count == 0) return WARM_OK;
+    return count == 1 || its->count == 1 ? absorb_in_one(its, references, count)
+                                         : absorb_in_all(its, references, count);
 }
 
 int warm_raise(warm *handle, uint64_t time, uint64_t *horizon) {
@@ -193,7 +205,8 @@ int warm_limit_history(warm *handle, uint64_t horizon, size_t pages) {
     return WARM_OK;
 }
 
-/* The limits of a message. What the history knows is counted if there is one of pages. */
+/* The limits of a message. If there is one of pages, what the history knows is counted first: then
+ * any bytes, also those of no message, make a call of each shard. */
 static node_limits limits_of(warm *handle) {
     const replica *of = ((opened *)handle->at)->of;
     node_limits limits = {.time = atomic_load(&of->limit),
@@ -212,11 +225,14 @@ int warm_receive(warm *handle, const void *message, size_t length) {
     return end_visit(its, status);
 }
 
+/* Once no answer is left, the handle keeps nothing of the message. */
 int warm_next_answer(warm *handle, void *message, size_t room, size_t *length) {
     opened *its = handle->at;
     if (its == NULL) return WARM_CLOSED;
     int status = go_through(its, &its->answers);
-    return status == WARM_OK ? visit_message(&its->answers, message, room, length) : status;
+    if (status == WARM_OK) status = visit_message(&its->answers, message, room, length);
+    if (status == WARM_OK && *length == 0) visit_end(&its->answers);
+    return status;
 }
 
 /* ---- counts ---- */

@@ -29,7 +29,29 @@ static void test_batches(void) {
     OK(warm_abandon(&handle));
 }
 
-/* Each shard has its own of many references; none has any, where the visit finds no memory. */
+/* An empty batch needs no memory. References of one shard, here the first, are a call of its node,
+ * which has one allocation: a visit would have two. */
+static void test_small_batches(void) {
+    const warm_reference seen[] = {
+        {.no = 3, .dev = 1, .replica = 1}, {.no = 3, .dev = 1, .replica = 1, .time = 1}};
+    for (size_t count = 1; count <= 4; count *= 4) {
+        const size_t most = count == 1 ? 2 : 1;
+        warm handle = {0};
+        open_shards(&handle, count);
+        granted = 0;
+        OK(warm_absorb(&handle, seen, 0));
+        MUST(warm_absorb(&handle, seen, most) == WARM_MEMORY && known(&handle) == 0);
+        granted = 1;
+        OK(warm_absorb(&handle, seen, most));
+        granted = SIZE_MAX;
+        MUST(known(&handle) == most && node_of(&handle, 0)->known == most);
+        OK(warm_abandon(&handle));
+        MUST(warm_absorb(&handle, seen, 0) == WARM_CLOSED);
+        nothing_left();
+    }
+}
+
+/* Each shard has its own of many references; none has any, if the visit finds no memory. */
 static void test_great_batches(void) {
     enum { MANY = 300 };
     static warm_reference seen[MANY];
@@ -225,22 +247,99 @@ static void test_memory(void) {
     nothing_left();
 }
 
-/* Each shard has its part of a dump, two references of eight; without memory, the first shards. */
+/* Each shard has this horizon, and they know this many pages together. */
+static bool have(warm *handle, uint64_t horizon, size_t pages) {
+    for (size_t number = 0; number < ((opened *)handle->at)->count; number++)
+        if (node_of(handle, number)->horizon != horizon) return false;
+    return known(handle) == pages;
+}
+
+/* Each shard has its part of a dump, two references. Without memory the first shards have it, and
+ * all have the dump's horizon, unless it was refused before. */
 static void test_loads_in_parts(void) {
-    warm handle = {0};
-    open_shards(&handle, 4);
-    size_t before = 0;
-    for (size_t grants = 2; grants < 6; grants++) { /* the first two open it and read */
-        granted = grants;
-        MUST(warm_load(&handle, 1, 8) == WARM_MEMORY);
-        granted = SIZE_MAX;
-        MUST(known(&handle) == before + 2 * (grants - 2));
-        before = known(&handle);
+    for (size_t count = 1; count <= 4; count *= 4) {
+        warm handle = {0}, other = {0};
+        open_shards(&handle, count);
+        OK(warm_attach(&handle, &other));
+        size_t before = 0;
+        for (size_t grants = 0; grants < 2 + count; grants++) { /* one reads, one is the visit's */
+            granted = grants;
+            MUST(warm_load(&handle, 1, 2 * count) == WARM_MEMORY);
+            granted = SIZE_MAX;
+            if (grants > 2) before += 2 * (grants - 2);
+            MUST(have(&handle, grants < 2 ? 0 : FAKE_DUMPED, before));
+        }
+        OK(warm_load(&handle, 1, 2 * count));
+        MUST(have(&handle, FAKE_DUMPED, before + 2 * count));
+        OK(warm_close(&other));
+        OK(warm_close(&handle));
+        nothing_left();
     }
-    OK(warm_load(&handle, 1, 8));
-    MUST(known(&handle) == before + 8);
+}
+
+/* The only handle of one shard loads all or nothing. */
+static void test_loads_alone(void) {
+    warm handle = {0};
+    open_shards(&handle, 1);
+    EACH_REFUSED(warm_load(&handle, 1, 2), have(&handle, 0, 0));
+    MUST(have(&handle, FAKE_DUMPED, 2));
     OK(warm_close(&handle));
     nothing_left();
+}
+
+/* A message has an entry of the first shard, and one of the third if there is one. Without memory
+ * the first shard may have its part, and all have the message's horizon, unless it was refused
+ * before. So it is of digests, which have no parts. */
+static void test_receives_in_parts(void) {
+    const uint8_t entries[10] = {FAKE_ENTRIES, 3, 0, 0, 2}, digests[66] = {FAKE_DIGESTS, 5};
+    for (size_t count = 1; count <= 4; count *= 4) {
+        const size_t parts = count > 2 ? 2 : 1;
+        warm handle = {0};
+        open_shards(&handle, count);
+        for (size_t grants = 0; grants < 1 + parts; grants++) { /* the visit has one */
+            granted = grants;
+            MUST(warm_receive(&handle, entries, sizeof entries) == WARM_MEMORY);
+            granted = SIZE_MAX;
+            MUST(have(&handle, grants == 0 ? 0 : 3, grants > 1));
+        }
+        OK(warm_receive(&handle, entries, sizeof entries));
+        MUST(have(&handle, 3, parts + (parts > 1)));
+        granted = 1;
+        MUST(warm_receive(&handle, digests, sizeof digests) == WARM_MEMORY);
+        granted = SIZE_MAX;
+        MUST(have(&handle, 5, parts + (parts > 1)));
+        OK(warm_close(&handle));
+        nothing_left();
+    }
+}
+
+/* Another handle of the one shard looks between the two steps of a call on the whole. */
+static warm looking;
+static size_t seen_pages;
+static uint64_t seen_horizon;
+
+static void look(void) {
+    seen_pages = known(&looking);
+    OK(warm_raise(&looking, 0, &seen_horizon));
+}
+
+/* First the horizon is raised, and then the shard is given its part. */
+static void test_steps_in_one_shard(void) {
+    const uint8_t entries[10] = {FAKE_ENTRIES, 9, 0, 0, 1};
+    for (int is_dump = 0; is_dump < 2; is_dump++) {
+        const uint64_t horizon = is_dump ? FAKE_DUMPED : 9;
+        warm handle = {0};
+        open_shards(&handle, 1);
+        OK(warm_attach(&handle, &looking));
+        at_unlock = look;
+        unlocks_before = 0;
+        OK(is_dump ? warm_load(&handle, 1, 1) : warm_receive(&handle, entries, sizeof entries));
+        MUST(at_unlock == NULL && seen_horizon == horizon && seen_pages == 0);
+        MUST(have(&handle, horizon, 1));
+        OK(warm_close(&looking));
+        OK(warm_close(&handle));
+        nothing_left();
+    }
 }
 
 /* Frames that are refused, at once or by each allocation. The answers that wait still do. */
@@ -313,6 +412,129 @@ static void test_answers(void) {
     frame[1] = 3;
     MUST(warm_receive(&handle, frame, 10) == WARM_LATE_HORIZON &&
          warm_receive(&handle, frame, 9) == WARM_TRUNCATED);
+    OK(warm_abandon(&handle));
+    nothing_left();
+}
+
+/* A call that is refused if one allocation is granted, and then the same call. */
+#define BOTH(call)                   \
+    do {                             \
+        granted = 1;                 \
+        MUST((call) == WARM_MEMORY); \
+        granted = SIZE_MAX;          \
+        OK(call);                    \
+    } while (0)
+
+static void call_all_others(warm *handle) {
+    const warm_reference seen[] = {{.no = 0, .replica = 1}, {.no = 1, .replica = 1}};
+    uint8_t frame[66];
+    uint64_t horizon;
+    size_t number;
+    warm_page page;
+    warm_sending sending = {.bucket = 1};
+    BOTH(warm_absorb(handle, seen, 2));
+    OK(warm_absorb(handle, seen, 1));
+    OK(warm_raise(handle, 1, &horizon));
+    BOTH(warm_offer(handle, frame, sizeof frame, &number));
+    OK(warm_send(handle, &sending, frame, sizeof frame, &number));
+    BOTH(warm_list(handle, &page, 1, &number));
+    BOTH(warm_save(handle, 1));
+    BOTH(warm_load(handle, 1, 2));
+    OK(warm_history_length(handle, &number));
+}
+
+/* Answers wait while the handle makes its other calls. */
+static void test_calls_while_answers_wait(void) {
+    const uint8_t request[10] = {FAKE_REQUEST, 3, 1, 1};
+    uint8_t frame[66];
+    warm handle = {0};
+    size_t length;
+    open_shards(&handle, 2);
+    call_all_others(&handle);
+    OK(warm_receive(&handle, request, sizeof request));
+    for (int part = 0; part < 4; part++) {
+        call_all_others(&handle);
+        OK(warm_next_answer(&handle, frame, sizeof frame, &length));
+        MUST(length == FAKE_FULL && frame[0] == FAKE_ENTRIES && frame[2] == part / 2);
+    }
+    call_all_others(&handle);
+    OK(warm_next_answer(&handle, frame, sizeof frame, &length));
+    MUST(length == 0);
+    OK(warm_abandon(&handle));
+    nothing_left();
+}
+
+/* A visit knows who sends what it makes, and how many shards there are. */
+static void are_visits_of(const warm *handle, uint16_t replica, size_t count) {
+    const opened *its = handle->at;
+    const fake_visit *calls = its->calls.at, *answers = its->answers.at;
+    MUST(calls->replica == replica && calls->shards == count);
+    MUST(answers->replica == replica && answers->shards == count);
+}
+
+static void test_visits_of_replicas(void) {
+    for (uint16_t replica = 7; replica <= 64; replica += 57) {
+        warm handle = {0}, other = {0};
+        OK(open_with(&handle, replica, 4, 8, devices, FAKE_DEVICES));
+        OK(warm_attach(&handle, &other));
+        are_visits_of(&handle, replica, 4);
+        are_visits_of(&other, replica, 4);
+        OK(warm_close(&other));
+        OK(warm_close(&handle));
+        nothing_left();
+    }
+}
+
+/* Of a message, also of one that nothing answers, a handle keeps something until it is said that no
+ * answer waits, another message is received, or the handle is closed. */
+static void test_what_is_kept(void) {
+    const uint8_t entries[10] = {FAKE_ENTRIES, 3, 0, 0, 2}, request[10] = {FAKE_REQUEST, 3, 1, 1};
+    uint8_t frame[66];
+    warm handle = {0};
+    size_t length = 77;
+    open_shards(&handle, 4);
+    int there = blocks;
+    for (int times = 0; times < 3; times++) {
+        OK(warm_receive(&handle, times == 1 ? request : entries, 10));
+        OK(warm_receive(&handle, entries, 10));
+        MUST(blocks == there + 1);
+        OK(warm_next_answer(&handle, frame, sizeof frame, &length));
+        MUST(length == 0 && blocks == there);
+        OK(warm_next_answer(&handle, frame, sizeof frame, &length));
+        MUST(length == 0 && blocks == there);
+    }
+    OK(warm_receive(&handle, request, 10));
+    for (int part = 0; part < 4; part++) { /* two of bucket 0: shard 1 knows nothing */
+        OK(warm_next_answer(&handle, frame, sizeof frame, &length));
+        MUST(length == (part < 2 ? FAKE_FULL : 0) && blocks == there + (part < 2));
+    }
+    OK(warm_receive(&handle, entries, 10));
+    OK(warm_abandon(&handle));
+    nothing_left();
+}
+
+/* Each allocation of each answer fails in turn, in a shard or as the frame is made: no answer is
+ * lost, and none comes twice, whatever the length was before. */
+static void test_refused_answers(void) {
+    const uint8_t request[10] = {FAKE_REQUEST, 3, 1, 1, 1, 1, 1, 1, 1, 1};
+    const warm_reference seen[] = {{.no = 0, .replica = 1}, {.no = 1, .replica = 1},
+        {.no = 2, .replica = 1}, {.no = 3, .replica = 1}};
+    uint8_t frame[66];
+    warm handle = {0};
+    size_t length;
+    open_shards(&handle, 4);
+    OK(warm_absorb(&handle, seen, 4));
+    OK(warm_receive(&handle, request, sizeof request));
+    for (int part = 0; part < 16; part++) {
+        const size_t before = part % 3 == 0 ? 0 : 77;
+        length = before;
+        frame[0] = 'x';
+        EACH_REFUSED(warm_next_answer(&handle, frame, sizeof frame, &length),
+            length == before && frame[0] == 'x');
+        MUST(length == FAKE_FULL && frame[0] == FAKE_ENTRIES && frame[2] == part / 2);
+    }
+    OK(warm_next_answer(&handle, frame, sizeof frame, &length));
+    MUST(length == 0);
     OK(warm_abandon(&handle));
     nothing_left();
 }
@@ -468,6 +690,7 @@ static void test_horizons(void) {
 
 int main(void) {
     test_batches();
+    test_small_batches();
     test_great_batches();
     test_limits_of_horizons();
     test_limits_of_pages();
@@ -476,7 +699,14 @@ int main(void) {
     test_sending();
     test_memory();
     test_loads_in_parts();
+    test_loads_alone();
+    test_receives_in_parts();
+    test_steps_in_one_shard();
     test_answers();
+    test_calls_while_answers_wait();
+    test_visits_of_replicas();
+    test_what_is_kept();
+    test_refused_answers();
     test_no_lock_during_save_and_load_of_one_shard();
     test_counts();
     test_failures();

@@ -26,7 +26,9 @@
    own. If another call's second write is under way by then, the call has its result. If all pages
    that could leave for its page are being written, a pin waits for one of these writes or an unpin.
    See warm_limit_waits.
-   The calls on a shard have one order; a call on several shards is not one step.
+   The calls on a shard have one order. A call on the whole replica is not one step, also with one
+   shard: other calls may come in between. warm_receive and warm_load first raise the horizon of
+   each shard, and then add to each its part.
 
    You may pass any slot, page, number, length, message or descriptor: the call is refused, or does
    what its description says. The library starts no thread.
@@ -367,8 +369,8 @@ int warm_offer(warm *handle, void *message, size_t room, size_t *length);
 /* Takes in a whole message. Its answers wait at this handle, in place of those to the one before:
    take those first.
    Refused: WARM_TRUNCATED to WARM_BAD_ORDER; WARM_LATE_HORIZON, WARM_LATE_STAMP and
-   WARM_TOO_MANY_PAGES by the limits; WARM_MEMORY at any point, when some shards may have their
-   part: receive it again.
+   WARM_TOO_MANY_PAGES by the limits; WARM_MEMORY at any point. After WARM_MEMORY all shards may
+   have the message's horizon, and some their part: receive it again.
    Caller: detects what a transport changes; a message has no checksum. */
 int warm_receive(warm *handle, const void *message, size_t length);
 
@@ -410,7 +412,8 @@ int warm_save(warm *handle, int fd);
 
 /* Joins the history in a file of this length to the replica's.
    Refused: WARM_BAD_MAGIC to WARM_BAD_ORDER, WARM_CUT_SHORT to WARM_MORE_FOLLOWS;
-   WARM_DUMP_NOT_READ; WARM_MEMORY, when some shards may have their part: load it again.
+   WARM_DUMP_NOT_READ; WARM_MEMORY at any point. After WARM_MEMORY all shards may have the dump's
+   horizon, and some their part: load it again.
    Caller: the file is open without O_DIRECT, and does not change meanwhile. */
 int warm_load(warm *handle, int fd, uint64_t length);
 

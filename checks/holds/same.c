@@ -130,18 +130,17 @@ static void use_slot(void) {
 /* Each node takes in the references to pages of its shard, in their order. */
 static void absorb(void) {
     warm_reference batch[BATCH];
-    visit of = {0};
-    size_t number;
-    for (size_t at = 0; at < BATCH; at++) {
+    node_reference parts[MOST_SHARDS][BATCH];
+    size_t each[MOST_SHARDS] = {0};
+    for (size_t at = 0; at < BATCH; at++, now++) {
         warm_page page = draw_page();
         page.no %= PAGES;
-        batch[at] = (warm_reference){.replica = 1, .dev = page.dev, .no = page.no, .time = now++};
+        size_t number = shard_of(page);
+        batch[at] = (warm_reference){.replica = 1, .dev = page.dev, .no = page.no, .time = now};
+        parts[number][each[number]++] = (node_reference){.replica = 1, .dev = page.dev, .no = page.no, .time = now};
     }
     MUST(warm_absorb(draw_handle(), batch, BATCH) == WARM_OK);
-    MUST(visit_open(&of, 1, shards) == WARM_OK && visit_absorb(&of, (const node_reference *)batch, BATCH) == WARM_OK);
-    while (visit_next(&of, &number)) visit_enter(&of, &nodes[number]);
-    MUST(visit_status(&of) == WARM_OK);
-    visit_close(&of);
+    for (size_t number = 0; number < shards; number++) MUST(node_absorb(&nodes[number], parts[number], each[number]) == WARM_OK);
 }
 
 /* The victims that are said are those of the node, one after another: each is pinned there, until all are said. */

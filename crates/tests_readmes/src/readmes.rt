@@ -24,4 +24,5 @@ mod shards;
 mod stamps;
 mod threads;
 mod turn;
+mod visits;
 mod world;

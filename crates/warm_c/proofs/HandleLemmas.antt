@@ -1,14 +1,15 @@
 -- Calls of handles, from what happens to what they hold.
 use Rattle.std.proofs.Common.{◌≡◌, ◌↔◌, ℕ, Option, Some, None, sym, subst}
 use Rattle.std.specs.Prelude.{ℤ, pos}
-use Rattle.warm_c.specs.declared.open_node.OpenNode.{OpenNode}
-use Rattle.warm_c.specs.declared.open_visit.OpenVisit.{OpenVisit}
+use Rattle.warm_c_calls.specs.declared.open_node.OpenNode.{OpenNode}
+use Rattle.warm_c_calls.specs.declared.open_visit.OpenVisit.{OpenVisit}
 use Rattle.warm_c_base.specs.declared.status.Refusal.{Refusal}
 use Rattle.warm_c_base.specs.Statuses.{code_of, status_of}
-use Rattle.warm_c.specs.Calls.{Ending}
+use Rattle.warm_c_calls.specs.Calls.{Ending}
 use Rattle.warm_c_base.specs.Values.{IsBool}
-use Rattle.warm_c.specs.Handles.{OpenRequest, OnHandle, OpenRefused, Opens}
-use Rattle.warm_c.specs.Visits.{OpensVisits, VisitsRefused}
+use Rattle.warm_c.specs.Handles.{OnHandle, Opens}
+use Rattle.warm_c_calls.specs.Opening.{OpenRequest, OpenRefused}
+use Rattle.warm_c.specs.VisitHandles.{OpensVisits, VisitsRefused}
 
 -- an open handle, which holds something before and after
 pub called : {A : Type 0} (goes : A → Ending → A → Type 0) (before after : Option A) (status : ℤ)
@@ -31,7 +32,3 @@ pub visits_refused : (replica shards : ℕ) (before after : Option OpenVisit) (s
     → VisitsRefused replica shards why → OpensVisits replica shards before status after
 visits_refused replica shards before after status why was is said for =
     subst (λ (o : Option OpenVisit). OpensVisits replica shards o status after) (sym was) (subst (λ (o : Option OpenVisit). OpensVisits replica shards None status o) (sym is) (why, said, for))
-
--- a bool of C that says whether P holds also says whether Q does, if each follows from the other
-pub bool_same : {P Q : Type 0} (n : ℕ) → IsBool n P → P ↔ Q → IsBool n Q
-bool_same n is same = (is.0, (λ e. same.0 (is.1.0 e), λ q. is.1.1 (same.1 q)))

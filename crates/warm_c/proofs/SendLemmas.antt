@@ -14,10 +14,10 @@ use Rattle.std.specs.Prelude.{Option, None, Some}
 use Rattle.std.specs.declared.alloc.Global.{Global}
 use Rattle.std.specs.contracts.impls.GlobalAllocator.TheImpl.{ghosts}
 use Rattle.warm_c.specs.Ownership.{pointer_owns}
-use Rattle.warm_c.specs.contracts.open_node.OpenNode as node
-use Rattle.warm_c.specs.contracts.open_visit.OpenVisit as visit
-use Rattle.warm_c.proofs.open_node.OpenNode.TheSendSync as node_crossing
-use Rattle.warm_c.proofs.open_visit.OpenVisit.TheSendSync as visit_crossing
+use Rattle.warm_c_calls.specs.contracts.open_node.OpenNode as node
+use Rattle.warm_c_calls.specs.contracts.open_visit.OpenVisit as visit
+use Rattle.warm_c_calls.proofs.open_node.OpenNode.TheSendSync as node_crossing
+use Rattle.warm_c_calls.proofs.open_visit.OpenVisit.TheSendSync as visit_crossing
 use Rattle.warm_c.specs.contracts.held_pointer.HeldPointer as pointer
 use Rattle.warm_c.specs.contracts.visit_pointer.VisitPointer as visit_pointer
 

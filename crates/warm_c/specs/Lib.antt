@@ -1,11 +1,3 @@
-pub mod Calls
-pub mod CountCalls
-pub mod Devices
-pub mod Engine
-pub mod FilledPins
 pub mod Handles
-pub mod LentBytes
-pub mod MessageLimits
 pub mod Ownership
-pub mod Since
-pub mod Visits
+pub mod VisitHandles

@@ -6,9 +6,9 @@ ghost use Rattle.warm_c_base.specs.Statuses.{code_of, status_of};
 ghost use Rattle.warm_c_base.specs.declared.status.Refusal.TheVariants.{Closed};
 
 use crate::handle::Handle;
-use crate::open_node::OpenNode;
 use std::alloc::Global;
 use warm_c_base::{Refusal, status_of};
+use warm_c_calls::OpenNode;
 
 /// Returns the status of a call on a closed handle.
 pub(crate) fn closed() -> i32

@@ -1,15 +1,15 @@
 //! The pointer of a box, while C holds it.
 ghost use Rattle.std.specs.Prelude.{◌≡◌, Option, Some, None, IsSome};
 ghost use Rattle.std.specs.contracts.impls.GlobalAllocator.TheImpl.{ghosts};
-ghost use Rattle.warm_c.specs.contracts.open_node.OpenNode.{the_row as node_row};
-ghost use Rattle.warm_c.specs.declared.open_node.OpenNode.{OpenNode};
+ghost use Rattle.warm_c_calls.specs.contracts.open_node.OpenNode.{the_row as node_row};
+ghost use Rattle.warm_c_calls.specs.declared.open_node.OpenNode.{OpenNode};
 ghost use Rattle.warm_c.specs.Ownership.{pointer_owns};
 
-use crate::open_node::OpenNode;
 use crate::raw_box::RawBox;
 use std::alloc::Global;
 use std::marker::{Model, Send};
 use std::ptr::null_mut;
+use warm_c_calls::OpenNode;
 
 /// The pointer of a box, or null. To proofs it owns the box's value, which is `node`.
 ///

@@ -16,7 +16,7 @@
 //! - [`node_open`] and [`node_close`] create and drop the node. Each of the other functions that
 //!   take a handle returns 64 on a closed one, and changes nothing.
 //!
-//! A call of a whole replica, of one node or more, is a visit of `warm_shards`, which has a handle
+//! A call of a whole replica, of one node or more, is a visit of `warm_visits`, which has a handle
 //! of its own kind: [`visit_exports`].
 //!
 //! Devices, files, and what crosses to C by value are of `warm_c_base`. c/fd_calls.c has what is
@@ -30,53 +30,39 @@
 #![tactic(auto)]
 
 ghost use Rattle.std.specs.Prelude.{◌≡◌, None, Some};
-ghost use Rattle.warm_c.specs.Calls.{Absorbs, CountsPages, Lists, Loads, Names, Pins, ReadsSlot};
-ghost use Rattle.warm_c.specs.Calls.{Saves, SaysResident, StepsWarmUp, Unpins, Writes};
-ghost use Rattle.warm_c.specs.CountCalls.{CountsDevice, CountsPool, SaysFailure};
-ghost use Rattle.warm_c.specs.Devices.{Replaces};
-ghost use Rattle.warm_c.specs.Engine.{FlushesDevice, ForgetsPages, NamesDirty, NodeWritesBackPage};
-ghost use Rattle.warm_c.specs.Engine.{PinsZeroed, SaysDirty};
-ghost use Rattle.warm_c.specs.FilledPins.{NamesNext, PinsFilled};
-ghost use Rattle.warm_c.specs.Handles.{OnHandle, Opens, Surely, open_request};
-ghost use Rattle.warm_c.specs.LentBytes.{Lends, LendsMut};
-ghost use Rattle.warm_c.specs.Since.{SendsSince, send_buffers};
+ghost use Rattle.warm_c_calls.specs.Calls.{Absorbs, CountsPages, Lists, Loads, Names, Pins, ReadsSlot};
+ghost use Rattle.warm_c_calls.specs.Calls.{Saves, SaysResident, StepsWarmUp, Unpins, Writes};
+ghost use Rattle.warm_c_calls.specs.CountCalls.{CountsDevice, CountsPool, SaysFailure};
+ghost use Rattle.warm_c_calls.specs.Devices.{Replaces};
+ghost use Rattle.warm_c_calls.specs.Engine.{FlushesDevice, ForgetsPages, NamesDirty, NodeWritesBackPage};
+ghost use Rattle.warm_c_calls.specs.Engine.{PinsZeroed, SaysDirty};
+ghost use Rattle.warm_c_calls.specs.FilledPins.{NamesNext, PinsFilled};
+ghost use Rattle.warm_c.specs.Handles.{OnHandle, Opens, Surely};
+ghost use Rattle.warm_c_calls.specs.Opening.{open_request};
+ghost use Rattle.warm_c_calls.specs.LentBytes.{Lends, LendsMut};
+ghost use Rattle.warm_c_calls.specs.Since.{SendsSince, send_buffers};
 ghost use Rattle.warm_c_base.specs.Statuses.{status_of};
 ghost use Rattle.warm_c_base.specs.Values.{page_if};
 
 mod called;
-mod count_calls;
-mod device_calls;
-mod dump_calls;
-mod engine_calls;
-mod frame_calls;
 pub mod handle;
 pub mod held_pointer;
-mod history_calls;
 pub mod laws;
-mod lending;
-pub mod message_limits;
-pub mod open_node;
-pub mod open_visit;
-mod opening;
 pub mod part_exports;
-mod pool_calls;
 pub mod raw_box;
-mod visit_begins;
 mod visit_called;
-mod visit_calls;
 pub mod visit_exports;
 pub mod visit_handle;
 pub mod visit_pointer;
 
 use crate::called::{closed, on_open, put_back};
 use crate::handle::Handle;
-use crate::open_node::OpenNode;
-use crate::opening::open;
 use std::alloc::Global;
 use warm_c_base::{
     Descriptor, PinnedSlot, Refusal, WarmCounters, WarmDevice, WarmDeviceCounters, WarmFailure,
     WarmPage, WarmReference, WarmSlot, c_bool, page_if, put_dirty, put_page, status_of,
 };
+use warm_c_calls::{OpenNode, open};
 use warm_gossip::NodeFault;
 
 /// Opens a closed handle: creates a node of this replica, with a pool of `frames` empty frames over
@@ -492,7 +478,7 @@ pub extern "C" fn node_next(
 /// Writes the frame with the first 1000 entries of a bucket, of those whose latest stamp is not
 /// before the time `since`, and, if `has_after`, whose page is greater than `after`; its length;
 /// how many entries it has; whether more of them follow, 1 or 0; and the page of the last one,
-/// after which to go on. Where there is none, `last` is unchanged.
+/// after which to go on. If there is none, `last` is unchanged.
 ///
 /// # Errors
 /// The buffer, `entries`, `more` and `last` are unchanged.

@@ -1,9 +1,9 @@
 //! The functions that C calls for one shard of many. `c/nodes.h` has their prototypes.
 ghost use Rattle.std.specs.Prelude.{◌≡◌, None};
-ghost use Rattle.warm_c.specs.Devices.{SaysMayStand};
-ghost use Rattle.warm_c.specs.Engine.{SaysMayForget};
+ghost use Rattle.warm_c_calls.specs.Devices.{SaysMayStand};
+ghost use Rattle.warm_c_calls.specs.Engine.{SaysMayForget};
 ghost use Rattle.warm_c.specs.Handles.{OnHandle};
-ghost use Rattle.warm_c.specs.LentBytes.{PinsAndLends};
+ghost use Rattle.warm_c_calls.specs.LentBytes.{PinsAndLends};
 
 use crate::called::{closed, put_back};
 use crate::handle::Handle;

@@ -5,10 +5,10 @@ ghost use Rattle.warm_c.specs.Handles.{OnHandle};
 ghost use Rattle.warm_c_base.specs.Statuses.{status_of};
 
 use crate::called::closed;
-use crate::open_visit::OpenVisit;
 use crate::visit_handle::VisitHandle;
 use std::alloc::Global;
 use warm_c_base::{Refusal, status_of};
+use warm_c_calls::OpenVisit;
 
 /// Ends a call on an open handle: puts the visit back, and returns the status.
 pub(crate) fn put_back(

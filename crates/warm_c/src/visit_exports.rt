@@ -4,23 +4,24 @@
 //! An open handle has one visit after the other, of one replica in so many shards. Between two of
 //! them it is idle: it names no shard, and has made nothing.
 ghost use Rattle.std.specs.Prelude.{◌≡◌, Bool, None, Some};
-ghost use Rattle.warm_shards.specs.Visits.{copy_visit, raise_visit};
+ghost use Rattle.warm_visits.specs.Visits.{copy_visit, offer_visit, raise_visit};
 ghost use Rattle.warm_c.specs.Handles.{OnHandle, Surely};
-ghost use Rattle.warm_c.specs.Visits.{BeginsAbsorb, BeginsLoad, BeginsOffer, BeginsReceive};
-ghost use Rattle.warm_c.specs.Visits.{BeginsVisit, EndsVisit, EntersNode, HandsOutNext, ListsCopy};
-ghost use Rattle.warm_c.specs.Visits.{NamesShard, OpensVisits, SavesCopy, SaysKept, SaysResult};
+ghost use Rattle.warm_c_calls.specs.Visits.{BeginsAbsorb, BeginsLoad, BeginsOrKeeps, BeginsReceive};
+ghost use Rattle.warm_c.specs.VisitHandles.{EndsVisit, EntersNode};
+ghost use Rattle.warm_c_calls.specs.Visits.{BeginsVisit, HandsOutNext, ListsCopy};
+ghost use Rattle.warm_c.specs.VisitHandles.{NamesShard, OpensVisits};
+ghost use Rattle.warm_c_calls.specs.Visits.{SavesCopy, SaysKept, SaysResult};
 
 use crate::called::closed;
 use crate::handle::Handle;
-use crate::message_limits::NodeLimits;
-use crate::open_visit::OpenVisit;
 use crate::visit_called::{on_visit, put_back};
 use crate::visit_handle::VisitHandle;
 use std::alloc::Global;
 use std::mem::swap;
 use warm_c_base::{Descriptor, Refusal, WarmPage, WarmReference, status_of};
+use warm_c_calls::{NodeLimits, OpenVisit};
 use warm_gossip::NodeFault;
-use warm_shards::{Visit, is_shard_count};
+use warm_visits::{Visit, is_shard_count};
 use warm_stamps::ReplicaId;
 
 /// Opens a closed handle of visits of this replica, in so many shards. Its visit is idle.
@@ -106,7 +107,8 @@ pub extern "C" fn visit_raise(alloc: Global, handle: &mut VisitHandle, time: u64
 /// 1: an allocation failed; the visit before is kept.
 #[unsafe(no_mangle)]
 pub extern "C" fn visit_offer(alloc: Global, handle: &mut VisitHandle) -> i32
-    ensures { OnHandle BeginsOffer handle.old.held.visit result handle.new.held.visit }
+    ensures { OnHandle (BeginsOrKeeps offer_visit) handle.old.held.visit result
+        handle.new.held.visit }
 {
     on_visit(alloc, handle, |visit| visit.offer(alloc))
 }
@@ -135,16 +137,15 @@ pub extern "C" fn visit_receive(
 
 /// Begins a visit that joins copies of the histories of all shards, for [`visit_list`] and
 /// [`visit_save`].
+///
+/// # Errors
+/// 1: an allocation failed; the visit before is kept.
 #[unsafe(no_mangle)]
 pub extern "C" fn visit_copy(alloc: Global, handle: &mut VisitHandle) -> i32
-    ensures { OnHandle (Surely (BeginsVisit copy_visit)) handle.old.held.visit result
+    ensures { OnHandle (BeginsOrKeeps copy_visit) handle.old.held.visit result
         handle.new.held.visit }
 {
-    let Some(mut visit) = handle.take(alloc) else {
-        return closed();
-    };
-    visit.copy(alloc);
-    put_back(handle, visit, Ok(()))
+    on_visit(alloc, handle, |visit| visit.copy(alloc))
 }
 
 /// Reads the dump that the first `length` bytes of the descriptor's file are, and begins a visit in

@@ -1,10 +1,10 @@
 //! A handle of visits, as C has it.
 ghost use Rattle.std.specs.Prelude.{◌≡◌, Some, None, IfNone, IfSome, is_some};
 
-use crate::open_visit::OpenVisit;
 use crate::visit_pointer::VisitPointer;
 use std::alloc::Global;
 use std::mem::replace;
+use warm_c_calls::OpenVisit;
 
 /// A handle. All zeros is a closed one; an open one owns a visit.
 #[repr(C)]

@@ -4,15 +4,15 @@
 //! cannot be one type for both.
 ghost use Rattle.std.specs.Prelude.{◌≡◌, Option, Some, None, IsSome};
 ghost use Rattle.std.specs.contracts.impls.GlobalAllocator.TheImpl.{ghosts};
-ghost use Rattle.warm_c.specs.contracts.open_visit.OpenVisit.{the_row as visit_row};
-ghost use Rattle.warm_c.specs.declared.open_visit.OpenVisit.{OpenVisit};
+ghost use Rattle.warm_c_calls.specs.contracts.open_visit.OpenVisit.{the_row as visit_row};
+ghost use Rattle.warm_c_calls.specs.declared.open_visit.OpenVisit.{OpenVisit};
 ghost use Rattle.warm_c.specs.Ownership.{pointer_owns};
 
-use crate::open_visit::OpenVisit;
 use crate::raw_box::RawBox;
 use std::alloc::Global;
 use std::marker::{Model, Send};
 use std::ptr::null_mut;
+use warm_c_calls::OpenVisit;
 
 /// The pointer of a box, or null. To proofs it owns the box's value, which is `visit`.
 ///

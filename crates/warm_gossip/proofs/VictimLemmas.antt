@@ -14,7 +14,8 @@ use Rattle.warm_pool.specs.declared.fault.PoolFault.{PoolFault}
 use Rattle.warm_pool.specs.declared.fault.PoolFault.TheVariants.{NoDevice, NoPage, AllFixed, ReadFault, WriteBack, FixesFull, OutOfPage, Fixed, Fault}
 use Rattle.warm_pool.specs.View.{PoolView, FrameView, frame_at, unfixed_pages}
 use Rattle.warm_pool.specs.Unchanged.{FailsAt}
-use Rattle.warm_pool.specs.Pinning.{AddsFix, HasNoFreeFrame, PutsIn, PutRefused, LoadRefused, PinRefused}
+use Rattle.warm_pool.specs.Retiring.{Emptied}
+use Rattle.warm_pool.specs.Pinning.{HasNoFreeFrame, PutsIn, PutRefused, LoadRefused, PinRefused}
 use Rattle.warm_gossip.specs.declared.call.Call.{Call}
 use Rattle.warm_gossip.specs.declared.call.Call.TheVariants.{Absorb, Send, Offer, Receive, Horizon, Pin, Unpin, Read, Write, Victim, WarmList, WarmStep, Restart}
 use Rattle.warm_gossip.specs.declared.call.Reply.{Reply}
@@ -25,6 +26,7 @@ use Rattle.warm_peer.specs.Answers.{refs_in}
 use Rattle.warm_gossip.specs.State.{NodeView}
 use Rattle.warm_gossip.specs.Step.{Step, Refuses}
 use Rattle.warm_gossip.specs.Given.{given_by_call}
+use Rattle.warm_gossip.specs.Brings.{Brings}
 use Rattle.warm_gossip.specs.Victims.{IsEvicted, VictimsAreFarthest, RepliesAreOverReferences}
 
 -- what is read of a frame beyond the last
@@ -111,51 +113,92 @@ none_given : history_of_entries [] ≡ history (set_of_list [])
 unfolding history
 none_given = refl
 
-pinned : (h : HistoryView) (v w : PoolView) (p : PageId) (slot : Slot)
-    → AddsFix v p slot w ⊎ PutsIn h v p 1 slot w → KeepsPages v w ⊎ PutsPage h v w
-pinned h v w p slot (inl adds) = inl (fixes_change v w slot.index _ adds.there (ap (λ x. x.frames) adds.becomes))
-pinned h v w p slot (inr puts) = inr (p, 1, slot, puts)
+-- The history is unchanged, or has taken references in, or is that of none: as the call gave them.
+abbrev pub HistoryGoes : HistoryView → Call → Reply → HistoryView → Type 0
+HistoryGoes h call reply k =
+    ((k ≡ h) × ((S : ReferenceSet) → given_by_call S call reply ≡ S))
+    ⊎ (((T : ReferenceSet) × (k ≡ history (references_of h ∪ T)) × ((S : ReferenceSet) → given_by_call S call reply ≡ S ∪ T))
+    ⊎ ((k ≡ history_of_entries []) × ((S : ReferenceSet) → given_by_call S call reply ≡ set_of_list [])))
+
+-- every frame has its page, or a page that the call brings was put into one, or a restart has
+-- emptied them
+abbrev pub PagesGo : NodeView → Call → NodeView → Type 0
+PagesGo old call new =
+    KeepsPages old.pool new.pool
+    ⊎ (((p : PageId) × Brings old call p × (fixes : ℕ) × (slot : Slot) × PutsIn old.history old.pool p fixes slot new.pool)
+    ⊎ ((call ≡ Restart) × Emptied old.pool new.pool))
+
+-- what a call does to the history, and to the pages in the frames
+abbrev pub Effect : NodeView → Call → Reply → NodeView → Type 0
+Effect old call reply new = HistoryGoes old.history call reply new.history × PagesGo old call new
+
+alone : (call : Call) (reply : Reply) (old new : NodeView)
+    → ((S : ReferenceSet) → given_by_call S call reply ≡ S) → KeepsNode old new
+    → Effect old call reply new
+alone call reply old new gives keeps = (inl (ap (λ n. n.history) keeps.0, gives), inl keeps.1)
+
+same : (call : Call) (reply : Reply) (old new : NodeView)
+    → ((S : ReferenceSet) → given_by_call S call reply ≡ S) → new ≡ old → Effect old call reply new
+same call reply old new gives is = alone call reply old new gives (none_changed old new is)
+
+taken : (T : ReferenceSet) (call : Call) (reply : Reply) (old new : NodeView)
+    → ((S : ReferenceSet) → given_by_call S call reply ≡ S ∪ T)
+    → new ≡ record old { history = history (references_of old.history ∪ T) }
+    → Effect old call reply new
+taken T call reply old new gives step =
+    (inr (inl (T, ap (λ n. n.history) step, gives)), inl (same_pool old.pool new.pool (ap (λ n. n.pool) step)))
+
+pub step_goes : (call : Call) (reply : Reply) (old new : NodeView) → Step old call reply new
+    → Effect old call reply new
+step_goes (Absorb batch) Done old new step = taken (set_of_list batch) (Absorb batch) Done old new (λ S. refl) step
+step_goes (Send bucket after) (Sent message) old new step = same (Send bucket after) (Sent message) old new (λ S. refl) step.1
+step_goes Offer (Sent message) old new step = same Offer (Sent message) old new (λ S. refl) step.1
+step_goes (Receive message) (Answers messages) old new step = taken (refs_in message) (Receive message) (Answers messages) old new (λ S. refl) step.1
+step_goes (Horizon time) (Kept horizon) old new step = taken (record { horizon = time; given = [] }) (Horizon time) (Kept horizon) old new (λ S. refl) step.0
+step_goes (Pin p) (Pinned slot) old new step = (
+  inl (ap (λ n. n.history) step.0, λ S. refl),
+  elim step.1.1 [
+    | inl adds ↦ inl (fixes_change old.pool new.pool slot.index _ adds.there (ap (λ x. x.frames) adds.becomes))
+    | inr puts ↦ inr (inl (p, refl, 1, slot, puts))
+  ],
+)
+step_goes (Unpin slot) Done old new step =
+    (inl (ap (λ n. n.history) step.1, λ S. refl), inl (fixes_change old.pool new.pool slot.index _ step.0.there (ap (λ n. n.pool.frames) step.1)))
+step_goes (Read slot at len) (Bytes bytes) old new step = same (Read slot at len) (Bytes bytes) old new (λ S. refl) step.3
+step_goes (Write slot at bytes) Done old new step =
+    alone (Write slot at bytes) Done old new (λ S. refl) (step.1.0, same_frames old.pool new.pool (ap (λ x. x.frames) step.1.1.becomes))
+step_goes Victim (Page victim) old new step = same Victim (Page victim) old new (λ S. refl) step.1
+step_goes (WarmList n) (Pages pages) old new step = same (WarmList n) (Pages pages) old new (λ S. refl) step.1
+step_goes WarmStep (Loaded None) old new step = same WarmStep (Loaded None) old new (λ S. refl) step.1
+step_goes WarmStep (Loaded (Some p)) old new step =
+    (inl (ap (λ n. n.history) step.1.0, λ S. refl), inr (inl (p, step.0, 0, step.1.1.0, step.1.1.1)))
+step_goes Restart Done old new step = (inr (inr (ap (λ n. n.history) step.0, λ S. refl)), inr (inr (refl, step.1)))
+step_goes call (Refused why) old new step = alone call (Refused why) old new (λ S. refl) (refused old new call why step)
+step_goes call reply old new step = absurd step
 
 -- the history is that of S, and any call but a restart has put one page into a frame, or left all
 -- pages in their frames
 abbrev pub Leads : ReferenceSet → Call → NodeView → NodeView → Type 0
 Leads S call old new = (new.history ≡ history S) × (call ≢ Restart → KeepsPages old.pool new.pool ⊎ PutsPage old.history old.pool new.pool)
 
-leads_alone : (S : ReferenceSet) (call : Call) (old new : NodeView) → old.history ≡ history S
-    → KeepsNode old new → Leads S call old new
-leads_alone S call old new is (alone, keeps) = (ap (λ n. n.history) alone ∙ is, λ other. inl keeps)
-
-leads_same : (S : ReferenceSet) (call : Call) (old new : NodeView) → old.history ≡ history S
-    → new ≡ old → Leads S call old new
-leads_same S call old new is same = leads_alone S call old new is (none_changed old new same)
-
-leads_with : (S T : ReferenceSet) (call : Call) (old new : NodeView) → old.history ≡ history S
-    → new ≡ record old { history = history (references_of old.history ∪ T) }
-    → Leads (S ∪ T) call old new
-leads_with S T call old new is step =
-    (ap (λ n. n.history) step ∙ ap (λ h. history (references_of h ∪ T)) is ∙ history_first S T, λ other. inl (same_pool old.pool new.pool (ap (λ n. n.pool) step)))
-
 -- a call leads to the history of the references given before and of those that it gives
 pub step_leads : (S : ReferenceSet) (call : Call) (reply : Reply) (old new : NodeView)
     → old.history ≡ history S → Step old call reply new
     → Leads (given_by_call S call reply) call old new
-step_leads S (Absorb batch) Done old new is step = leads_with S (set_of_list batch) (Absorb batch) old new is step
-step_leads S (Send bucket after) (Sent message) old new is step = leads_same S (Send bucket after) old new is step.1
-step_leads S Offer (Sent message) old new is step = leads_same S Offer old new is step.1
-step_leads S (Receive message) (Answers messages) old new is step = leads_with S (refs_in message) (Receive message) old new is step.1
-step_leads S (Horizon time) (Kept horizon) old new is step = leads_with S (record { horizon = time; given = [] }) (Horizon time) old new is step.0
-step_leads S (Pin p) (Pinned slot) old new is step = (ap (λ n. n.history) step.0 ∙ is, λ other. pinned old.history old.pool new.pool p slot step.1.1)
-step_leads S (Unpin slot) Done old new is step = (ap (λ n. n.history) step.1 ∙ is, λ other. inl (fixes_change old.pool new.pool slot.index _ step.0.there (ap (λ n. n.pool.frames) step.1)))
-step_leads S (Read slot at len) (Bytes bytes) old new is step = leads_same S (Read slot at len) old new is step.3
-step_leads S (Write slot at bytes) Done old new is step =
-    leads_alone S (Write slot at bytes) old new is (step.1.0, same_frames old.pool new.pool (ap (λ x. x.frames) step.1.1.becomes))
-step_leads S Victim (Page victim) old new is step = leads_same S Victim old new is step.1
-step_leads S (WarmList n) (Pages pages) old new is step = leads_same S (WarmList n) old new is step.1
-step_leads S WarmStep (Loaded None) old new is step = leads_same S WarmStep old new is step.1
-step_leads S WarmStep (Loaded (Some p)) old new is step = (ap (λ n. n.history) step.1.0 ∙ is, λ other. inr (p, 0, step.1.1.0, step.1.1.1))
-step_leads S Restart Done old new is step = (ap (λ n. n.history) step.0 ∙ none_given, λ other. absurd (other refl))
-step_leads S call (Refused why) old new is step = leads_alone S call old new is (refused old new call why step)
-step_leads S call reply old new is step = absurd step
+step_leads S call reply old new is step =
+    let goes = step_goes call reply old new step in (
+      elim goes.0 [
+        | inl stays ↦ stays.0 ∙ is ∙ ap history (sym (stays.1 S))
+        | inr moves ↦ elim moves [
+          | inl takes ↦ takes.1 ∙ ap (λ h. history (references_of h ∪ takes.0)) is ∙ history_first S takes.0 ∙ ap history (sym (takes.2 S))
+          | inr none ↦ none.0 ∙ none_given ∙ ap history (sym (none.1 S))
+        ]
+      ],
+      λ other. elim goes.1 [
+        | inl keeps ↦ inl keeps
+        | inr moves ↦ elim moves [ inl puts ↦ inr (puts.0, puts.2, puts.3, puts.4) | inr gone ↦ absurd (other gone.0) ]
+      ],
+    )
 
 -- ---- the page that leaves
 
@@ -183,7 +226,7 @@ victim_left {h} {v} puts q held = elim puts.to_load [
 ]
 
 -- a page that leaves was in that frame
-leaves_as_victim : {h : HistoryView} {v w : PoolView} {p : PageId} {fixes : ℕ} {slot : Slot}
+pub leaves_as_victim : {h : HistoryView} {v w : PoolView} {p : PageId} {fixes : ℕ} {slot : Slot}
     → PutsIn h v p fixes slot w → (q : PageId) → IsEvicted v w q
     → IsVictim (references_of h) (unfixed_pages v) (Some q)
 leaves_as_victim {h} {v} puts q (was, gone) =

@@ -9,3 +9,4 @@ pub mod Engine
 pub mod Lending
 pub mod Victims
 pub mod WarmUps
+pub mod Brings

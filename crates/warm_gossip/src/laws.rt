@@ -6,6 +6,7 @@
 //! the definitions alone. Those that take a node give the premises of the others, and their
 //! conclusions, for that node.
 ghost use Rattle.warm_gossip.specs.Batches.{BatchesAreTaken};
+ghost use Rattle.warm_gossip.specs.Brings.{CallsBringOnly};
 ghost use Rattle.warm_gossip.specs.Lending.{LentBytesAreWritten};
 ghost use Rattle.warm_gossip.specs.State.{node_view};
 ghost use Rattle.warm_gossip.specs.Given.{HistoryIsOfGiven};
@@ -27,6 +28,12 @@ pub fn replies_are_over_references()
 /// references for which the node's history stands.
 pub fn victims_are_farthest()
     ensures { VictimsAreFarthest }
+{}
+
+/// After a call with any reply, refused or not, each page in a frame was in a frame before, or is
+/// the page that the call brings: that of a pin, or that which a warm-up step loads next.
+pub fn calls_bring_only()
+    ensures { CallsBringOnly }
 {}
 
 /// While no page is pinned, no page of the warm-up list, cut to the number of frames, is evicted by

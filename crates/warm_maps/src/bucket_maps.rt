@@ -138,8 +138,8 @@ impl BucketMaps {
         self.maps[bucket_of(page).get() as usize].get(page)
     }
 
-    /// Takes in the given stamps of a page, and returns how that changes the page. What was known of
-    /// it is put in the place of the stamps. `AllocError` occurs if the page is new and its
+    /// Takes in the given stamps of a page, and returns how that changes the page. What was known
+    /// of it is put in the place of the stamps. `AllocError` occurs if the page is new and its
     /// allocation fails, and changes no map. The guess whether the page is new changes the time
     /// alone.
     pub fn record(
@@ -189,8 +189,8 @@ impl BucketMaps {
         are_near(&self.maps)
     }
 
-    /// Takes in all stamps that are not older than the horizon of other maps, whose pages are of near
-    /// devices: the maps of a bucket are read in one walk. Returns which buckets that changes.
+    /// Takes in all stamps that are not older than the horizon of other maps, whose pages are of
+    /// near devices: the maps of a bucket are read in one walk. Returns which buckets that changes.
     /// `AllocError` occurs if an allocation fails, and changes nothing.
     pub fn join(
         &mut self,

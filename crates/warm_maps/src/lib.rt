@@ -1,8 +1,8 @@
 //! What is known of each page: the two latest stamps, held in ordered maps.
 //!
-//! [`PageHist`] is what is kept of a page: its latest stamp, or its two latest. [`BucketMaps`] holds
-//! it for many pages: for each bucket an ordered map, from keys in page order to stamps in 24 bytes.
-//! Contracts see the maps as pairs of a key and a `PageHist`.
+//! [`PageHist`] is what is kept of a page: its latest stamp, or its two latest. [`BucketMaps`]
+//! holds it for many pages: for each bucket an ordered map, from keys in page order to stamps in 24
+//! bytes. Contracts see the maps as pairs of a key and a `PageHist`.
 #![tactic(auto)]
 
 mod bucket_map;

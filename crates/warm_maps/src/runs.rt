@@ -39,8 +39,8 @@ fn is_run(number: u8, entries: &[Entry]) -> bool
     true
 }
 
-/// The bucket of which these entries are a run, if they are one that is worth a walk: four entries or
-/// more at rising keys, all of near devices. Allocation-free.
+/// The bucket of which these entries are a run, if they are one that is worth a walk: four entries
+/// or more at rising keys, all of near devices. Allocation-free.
 pub fn bucket_of_run(more: &[Entry]) -> Option<Bucket>
     ensures { IfSome result (λ bucket. IsRun bucket more.now) }
 {

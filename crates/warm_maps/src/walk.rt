@@ -192,8 +192,8 @@ pub(crate) fn add_part(
     more: Packed,
     known: Option<Packed>,
 ) -> Result<(), AllocError>
-    ensures { OnOk result
-        (AddsPart known key more changed.old.items fresh.old.items changed.new.items fresh.new.items) }
+    ensures { OnOk result (AddsPart known key more
+        changed.old.items fresh.old.items changed.new.items fresh.new.items) }
 {
     let Some(before) = known else {
         prove_two_latest(&more);

@@ -3,7 +3,6 @@ use Rattle.std.proofs.Common.{◌≡◌, ℕ, List, [], ◌∷◌, map, Option, 
 use Rattle.std.specs.List.{AllByRecursion}
 use Rattle.warm_stamps.specs.declared.PageId.{PageId}
 use Rattle.warm_history.specs.Histories.{HistoryView, entries_of}
-use Rattle.warm_pool.specs.declared.fault.PoolFault.{PoolFault}
 use Rattle.warm_pool.specs.declared.fault.PoolFault.TheVariants.{SizeDiffers}
 use Rattle.warm_frame_table.specs.Frames.{FrameState}
 use Rattle.warm_pool.specs.Outcomes.{FlushDeviceFails, SettlesDevice, WritePageFails, WritesPageBack}
@@ -23,7 +22,8 @@ use Rattle.warm_gossip.specs.State.{NodeState, node_view}
 use Rattle.warm_shards.specs.Laws.{BringsOwn}
 use Rattle.warm_shards.specs.Shards.{HasPagesOf, HoldsPagesOf, HoldsShard}
 use Rattle.warm_visits.specs.ShardNumbers.{shard_of}
-use Rattle.warm_shards.proofs.EngineCalls.{flushed_own, forgotten_own, page_own, retired_own, same_own, zeroed_own}
+use Rattle.warm_shards.proofs.Calls.{frames_own}
+use Rattle.warm_shards.proofs.EngineCalls.{SameFrames, flushed_frames, forgotten_own, page_frames, retired_own, unretired_frames, zeroed_own}
 use Rattle.warm_shards.proofs.HoldsPagesLemmas.{failures_stay, steps_stay}
 use Rattle.warm_shard_machine.specs.declared.calls.ShardCall.{ShardCall}
 use Rattle.warm_shard_machine.specs.declared.calls.ShardCall.TheVariants.{Change, Enter, Look, Pin, PinFilled, PinZeroed}
@@ -66,6 +66,11 @@ module _ (count i : ℕ) where
     resident = pages;
   }
 
+  -- the frames that a caller sees are unchanged
+  same_frames : (n m : NodeState) → HoldsShard count i n → KeepsKnown n m → SameFrames n.pool m.pool
+      → HoldsShard count i m
+  same_frames n m own known same = pool_own n m own known (frames_own count i (view_of n.pool) (view_of m.pool) same own.resident)
+
   abbrev BringsWork : Work → Type 0
   BringsWork (calling c) = BringsOwn count i c
   BringsWork (zeroing p) = IsHere p
@@ -84,26 +89,25 @@ module _ (count i : ℕ) where
   step_own n m (writing_some limit) r brings own step = absurd step
   step_own n m (writing_page p) (WasDirty was_dirty) brings own step =
       let asked : AsksPool (WritesPageBack p) (WritePageFails p) n (Ok was_dirty) m = record { known = step.0; done = step.1; refused = tt } in
-      pool_own n m own step.0 (page_own IsHere n m p (Ok was_dirty) own.resident asked).own
+      same_frames n m own step.0 (page_frames p n m (Ok was_dirty) asked)
   step_own n m (writing_page p) (Refused why) brings own step =
       let asked : AsksPool (WritesPageBack p) (WritePageFails p) n (Err why) m = record { known = step.0; done = tt; refused = step.1 } in
-      pool_own n m own step.0 (page_own IsHere n m p (Err why) own.resident asked).own
+      same_frames n m own step.0 (page_frames p n m (Err why) asked)
   step_own n m (writing_page p) r brings own step = absurd step
   step_own n m (flushing dev) Done brings own step =
       let asked : AsksPool {T = Unit} (λ s given. SettlesDevice dev s) (FlushDeviceFails dev) n (Ok tt) m = record { known = step.0; done = step.1; refused = tt } in
-      pool_own n m own step.0 (flushed_own IsHere n m dev (Ok tt) own.resident asked).own
+      same_frames n m own step.0 (flushed_frames dev n m (Ok tt) asked)
   step_own n m (flushing dev) (Refused why) brings own step =
       let asked : AsksPool {T = Unit} (λ s given. SettlesDevice dev s) (FlushDeviceFails dev) n (Err why) m = record { known = step.0; done = tt; refused = step.1 } in
-      pool_own n m own step.0 (flushed_own IsHere n m dev (Err why) own.resident asked).own
+      same_frames n m own step.0 (flushed_frames dev n m (Err why) asked)
   step_own n m (flushing dev) r brings own step = absurd step
   step_own n m writing_back Done brings own step = same_stays n m own step.0
   step_own n m writing_back (Refused why) brings own step = fails_stays n m why own step.0
   step_own n m writing_back r brings own step = absurd step
   step_own n m (zeroing p) (Pinned slot) brings own step =
-      pool_own n m own step.0 (zeroed_own IsHere n m p slot brings own.resident step.0 step.1).own
+      pool_own n m own step.0 (zeroed_own count i n.history (view_of n.pool) (view_of m.pool) p slot brings step.1 own.resident)
   step_own n m (zeroing p) (Refused why) brings own step =
-      let same = ap (λ (fs : List FrameState). map frame_view fs) step.1 in
-      pool_own n m own step.0 (same_own IsHere (view_of n.pool) (view_of m.pool) same own.resident)
+      same_frames n m own step.0 (ap (λ (fs : List FrameState). map frame_view fs) step.1)
   step_own n m (zeroing p) r brings own step = absurd step
   step_own n m (filling p bytes) (Pinned slot) brings own step =
       steps_stay count i (node_view n) (node_view m) (node_call.Pin p) (node_reply.Pinned slot) brings own step.1
@@ -116,7 +120,7 @@ module _ (count i : ℕ) where
   step_own n m naming_next (Refused why) brings own step = subst (HoldsShard count i) (sym step.1) own
   step_own n m naming_next r brings own step = absurd step
   step_own n m (forgetting dev from) Done brings own step =
-      pool_own n m own step.0 (forgotten_own IsHere n m dev from own.resident step.0 step.1).own
+      pool_own n m own step.0 (forgotten_own count i n.pool m.pool dev from step.1 own.resident)
   step_own n m (forgetting dev from) (Refused why) brings own step =
       let same = unforgotten n.pool m.pool dev from why step.1 in
       pool_own n m own step.0 (subst (λ (s : PoolState). HasPagesOf count i (view_of s)) (sym same) own.resident)
@@ -125,9 +129,9 @@ module _ (count i : ℕ) where
   step_own n m (sending_since bucket since after) (Refused why) brings own step = subst (HoldsShard count i) (sym step.1) own
   step_own n m (sending_since bucket since after) r brings own step = absurd step
   step_own n m (retiring dev told) (Replaced given) brings own step =
-      pool_own n m own step.4 (retired_own {T = Unit} {E = PoolFault} IsHere n m dev step.0 (λ f. f) (Ok tt) own.resident step.4 step.5.retires.retired tt).own
+      pool_own n m own step.4 (retired_own count i (view_of n.pool) (view_of m.pool) dev step.0 step.5.retires.retired own.resident)
   step_own n m (retiring dev told) (Refused (Pool fault)) brings own step =
-      pool_own n m own step.2 (retired_own {T = Unit} {E = PoolFault} IsHere n m dev step.0 (λ f. f) (Err fault) own.resident step.2 tt step.3.cause).own
+      same_frames n m own step.2 (unretired_frames (view_of n.pool) (view_of m.pool) dev step.0 fault step.3.cause)
   step_own n m (retiring dev told) (Refused Memory) brings own step = subst (HoldsShard count i) (sym step) own
   step_own n m (retiring dev told) r brings own step = absurd step
   step_own n m (entering all next v) (Entered w) brings own step =

@@ -22,10 +22,11 @@ use Rattle.warm_peer.specs.Since.{BringsHeld, HasMoreSince, sent_since}
 use Rattle.warm_peer.proofs.SinceLemmas.{brings_held}
 use Rattle.warm_gossip.specs.State.{NodeState}
 use Rattle.warm_shards.specs.Clauses.{SameShards, Together, TogetherAnswered}
-use Rattle.warm_shards.specs.Digests.{FillsShard}
+use Rattle.warm_visits.specs.Digests.{FillsShard}
 use Rattle.warm_shards.specs.Shards.{AreShards, as_node, held, shard_at, whole}
 use Rattle.warm_shards.proofs.AreShardsLemmas.{some_shards}
-use Rattle.warm_shards.proofs.Buckets.{sent_since_whole, since_entries, since_whole, sent_whole, shard_horizon}
+use Rattle.warm_shards.proofs.Buckets.{sent_since_whole, since_whole, sent_whole, shard_horizon}
+use Rattle.warm_visits.proofs.PartEntryLemmas.{since_entries}
 use Rattle.warm_shards.proofs.Calls.{read_at, same_histories, same_ids, same_whole}
 use Rattle.warm_shards.proofs.DigestLemmas.{AreGathered, digest_whole, gathered_more}
 use Rattle.std.proofs.lemmas.Bool.{ltb-false, ltb-true}
@@ -49,6 +50,13 @@ digests_next old ns count k n d digests table new are long lt at same is fills s
     ∙ digest_whole old k bucket are (omega arith) low (ap (λ (x : ℕ). bucket % x) (sym long) ∙ here)) so_far
 
 -- ---- what is sent of one bucket
+
+-- the shard of a bucket, as the code finds it
+pub bucket_found : (ns : List NodeState) (bucket from len : ℕ) → AreShards ns → len ≡ length ns
+    → from ≡ bucket → (from % len < length ns) × (bucket % length ns ≡ from % len)
+bucket_found ns bucket from len are long same =
+    let some = some_shards ns are in
+    (omega (arith, long, some), ap (λ (x : ℕ). x % length ns) (sym same) ∙ ap (λ (x : ℕ). from % x) (sym long))
 
 sent_same : (ns : List NodeState) (j bucket : ℕ) (after : Option PageId) → AreShards ns
     → j < length ns → bucket % length ns ≡ j
@@ -115,6 +123,18 @@ sends_since ns j bucket since after n (Ok x) are lt is at sent more =
       more = subst (λ T. IsTrue x.more ↔ T) (ap (λ (y : NodeState). HasMoreSince y.history bucket since after) at ∙ more_same ns j bucket since after are lt is) more;
       held = subst (BringsHeld (whole ns)) (sym message) (held_since ns bucket since after (shard_at ns 0).id);
     }
+
+-- the same of the shards as a caller sees them
+pub portion_found : {ns xs : List NodeState} {n : NodeState} (bucket since from len : ℕ)
+    (after : Option PageId) (result : Result SentPortion NodeFault) → ns ≡ xs → AreShards ns
+    → len ≡ length ns → from ≡ bucket → n ≡ get_or ns (from % len) n
+    → IfOk result (λ x. x.message ≡ sent_since n.id n.history bucket since after)
+    → IfOk result (λ x. IsTrue x.more ↔ HasMoreSince n.history bucket since after)
+    → SentPortionIs xs bucket since after result
+portion_found {ns} {xs} {n} bucket since from len after result view are long same at sent more =
+    let found = bucket_found ns bucket from len are long same in
+    subst (λ (ys : List NodeState). SentPortionIs ys bucket since after result) view
+    (sends_since ns (from % len) bucket since after n result are found.0 found.1 (read_at ns (from % len) n n found.0 at) sent more)
 
 -- ---- an offer
 

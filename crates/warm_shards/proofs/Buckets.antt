@@ -4,8 +4,7 @@ use Rattle.std.specs.Prelude.{◌==◌}
 use Rattle.warm_stamps.specs.declared.PageId.{PageId}
 use Rattle.warm_stamps.specs.Buckets.{page_bucket}
 use Rattle.warm_history.specs.Entry.{Entry}
-use Rattle.warm_history.specs.Carried.{bucket_entries, carried, comes_after, is_next_in_bucket}
-use Rattle.warm_history.specs.Carried.{later_of_bucket}
+use Rattle.warm_history.specs.Carried.{bucket_entries, carried, comes_after, is_next_in_bucket, later_of_bucket}
 use Rattle.warm_history.specs.Histories.{HistoryView, IsHistory, entries_of, hist, history, references_of}
 use Rattle.warm_history.specs.ReferenceSets.{references}
 use Rattle.warm_history.specs.Since.{carried_since, entries_since, recent_entries}
@@ -14,11 +13,11 @@ use Rattle.warm_history.proofs.ChangeLemmas.{same_bucket}
 use Rattle.warm_history.proofs.HistoryLemmas.{IsHistory-history, entries-history, horizon-history}
 use Rattle.warm_history.proofs.JoinLemmas.{history_of_own_references}
 use Rattle.warm_history.proofs.ListHistoryLemmas.{get, get-history}
-use Rattle.warm_history.proofs.SinceLemmas.{history-since}
 use Rattle.warm_gossip.specs.State.{NodeState}
 use Rattle.warm_shards.specs.Shards.{AreShards, held, shard_at, whole}
 use Rattle.warm_shards.proofs.WholeLemmas.{hist_whole, whole_horizon}
-use Rattle.warm_shards.proofs.Lists.{filter_within}
+use Rattle.warm_visits.proofs.Lists.{filter_within}
+use Rattle.warm_visits.proofs.PartEntryLemmas.{since_entries}
 
 -- what a history says of a page is what its references say
 get_known : (h : HistoryView) (p : PageId) → IsHistory h
@@ -76,14 +75,6 @@ sent_whole ns j bucket after limit are lt is =
     carried_entries (shard_at ns j).history bucket after limit (are.each j lt).valid
     ∙ ap (take limit) (sym (later_whole ns j bucket after are lt is))
     ∙ sym (carried_entries (whole ns) bucket after limit (IsHistory-history (held ns)))
-
-pub since_entries : (h : HistoryView) (bucket since : ℕ) (after : Option PageId) (limit : ℕ)
-    → IsHistory h
-    → entries_of (history (carried_since (references_of h) bucket since after limit))
-    ≡ take limit (entries_since bucket since after (entries_of h))
-since_entries h bucket since after limit valid =
-    sym (history-since (references_of h) bucket since after limit)
-    ∙ ap (λ (g : HistoryView). take limit (entries_since bucket since after g.entries)) (history_of_own_references h valid)
 
 pub since_whole : (ns : List NodeState) (j bucket since : ℕ) (after : Option PageId)
     → AreShards ns → j < length ns → bucket % length ns ≡ j

@@ -1,10 +1,9 @@
 -- What a call of one node does to the shards.
-use Rattle.std.proofs.Common.{◌≡◌, ℕ, zero, suc, ◌<◌, List, [], ◌∷◌, length, max, set, get_or, Some, refl, sym, ap, subst, ◌∙◌, arith}
+use Rattle.std.proofs.Common.{◌≡◌, inl, inr, ℕ, zero, suc, ◌<◌, List, [], ◌∷◌, length, max, set, get_or, Some, refl, sym, ap, subst, ◌∙◌, arith}
 use Rattle.std.specs.List.{AllByRecursion}
 use Rattle.std.specs.Ordering.{flip_args}
 use Rattle.std.proofs.lemmas.List.{length-set}
 use Rattle.warm_stamps.specs.declared.PageId.{PageId}
-use Rattle.warm_stamps.specs.declared.Reference.{Reference}
 use Rattle.warm_stamps.specs.Distinct.{distinct}
 use Rattle.warm_stamps.proofs.DistinctLemmas.{all_of_has, all_take, has_from_distinct}
 use Rattle.warm_stamps.proofs.StampLemmas.{IsStrictOrder-flip}
@@ -13,24 +12,21 @@ use Rattle.warm_history.specs.Histories.{HistoryView, IsHistory, entries_of, his
 use Rattle.warm_history.proofs.HistoryLemmas.{IsHistory-history, horizon-history}
 use Rattle.warm_rank.specs.Ranking.{eviction_cmp, hottest_pages}
 use Rattle.warm_rank.proofs.EvictionLemmas.{eviction_order}
-use Rattle.warm_pool.specs.declared.slot.Slot.{Slot}
 use Rattle.warm_pool.specs.Unchanged.{KeepsBytes}
-use Rattle.warm_pool.specs.Pinning.{PutsIn}
 use Rattle.warm_pool.specs.State.{PoolState}
-use Rattle.warm_pool.specs.View.{PoolView, frame_at, view_of}
+use Rattle.warm_pool.specs.View.{FrameView, PoolView, frame_at, view_of}
+use Rattle.warm_gossip.specs.Brings.{BringsOnly}
+use Rattle.warm_gossip.specs.Engine.{KeepsKnown}
 use Rattle.warm_gossip.specs.State.{NodeState, NodeView, node_view}
-use Rattle.warm_gossip.specs.declared.call.Call.TheVariants.{Absorb}
-use Rattle.warm_gossip.specs.declared.call.Reply.TheVariants.{Refused}
-use Rattle.warm_gossip.specs.declared.fault.NodeFault.{NodeFault}
-use Rattle.warm_gossip.specs.declared.fault.NodeFault.TheVariants.{Memory, Pool, StaleSlot}
-use Rattle.warm_gossip.specs.Clauses.{Goes}
 use Rattle.warm_gossip.specs.Step.{IsNextWarm, nth_page}
-use Rattle.warm_gossip.proofs.VictimLemmas.{KeepsPages, frames_after}
+use Rattle.warm_gossip.proofs.VictimLemmas.{no_frame}
 use Rattle.warm_shards.specs.Clauses.{KeepPools, SameShards}
-use Rattle.warm_shards.specs.Shards.{AreShards, HoldsPagesOf, IsShard, held, no_shard, shard_at, shard_of, whole}
-use Rattle.warm_shards.proofs.AreShardsLemmas.{all_shards, at_each}
+use Rattle.warm_shards.specs.Shards.{AreShards, HasPagesOf, HoldsPagesOf, IsShard, held, no_shard, shard_at, whole}
+use Rattle.warm_visits.specs.ShardNumbers.{shard_of}
+use Rattle.warm_shards.proofs.AreShardsLemmas.{at_each, each_still, some_shards}
 use Rattle.warm_shards.proofs.Places.{read_at as at_place}
 use Rattle.warm_shards.proofs.Pages.{all_held, all_pages, all_taken, each_has}
+use Rattle.warm_visits.proofs.GivenLemmas.{bytes_same}
 
 -- ---- pools that stay
 
@@ -40,9 +36,6 @@ bytes_after a b c x y = record {
   bytes = λ k. y.bytes k ∙ x.bytes k;
   dirty = λ k. y.dirty k ∙ x.dirty k;
 }
-
-pub bytes_same : (a : PoolState) → KeepsBytes a a
-bytes_same a = record { devices = refl; bytes = λ k. refl; dirty = λ k. refl }
 
 pub keep_then : (a b c : List NodeState) → KeepPools a b → KeepPools b c → KeepPools a c
 keep_then a b c x y = record {
@@ -94,12 +87,16 @@ same_whole old new same = ap history (held_alike old new same.count (same_histor
 
 -- ---- one node is still the shard
 
+-- the pages of a history are of this shard
+abbrev pub Knows : ℕ → ℕ → HistoryView → Type 0
+Knows count i h = AllByRecursion (λ e. shard_of count e.page ≡ i) (entries_of h)
+
 -- it has taken references to its pages in: its pages are still its own
 pub takes_own : (count i : ℕ) (v w : NodeView) (S : ReferenceSet) → HoldsPagesOf count i v
     → w ≡ record v { history = history (references_of v.history ∪ S) }
     → AllByRecursion (λ r. shard_of count r.page ≡ i) S.given → HoldsPagesOf count i w
 takes_own count i v w S own is all = record {
-  known = subst (λ (x : NodeView). AllByRecursion (λ e. shard_of count e.page ≡ i) (entries_of x.history)) (sym is) (all_taken (λ p. shard_of count p ≡ i) (entries_of v.history) S.given (max v.history.horizon S.horizon) own.known all);
+  known = subst (λ (x : NodeView). Knows count i x.history) (sym is) (all_taken (λ p. shard_of count p ≡ i) (entries_of v.history) S.given (max v.history.horizon S.horizon) own.known all);
   resident = λ k p at. own.resident k p (ap (λ (x : NodeView). (frame_at x.pool k).page) (sym is) ∙ at);
 }
 
@@ -117,59 +114,49 @@ takes_shard count number latest i n m S old view all =
       own = takes_own count i (node_view n) (node_view m) S old.own view all;
     }
 
+-- the id and the history are unchanged, and no page of another shard is in its pool
+pub known_shard : (count number latest i : ℕ) (n m : NodeState) → IsShard count number latest i n
+    → KeepsKnown n m → HasPagesOf count i (view_of m.pool) → IsShard count number latest i m
+known_shard count number latest i n m old known resident = record {
+  id = known.id ∙ old.id;
+  horizon = ap (λ (h : HistoryView). h.horizon) known.history ∙ old.horizon;
+  valid = subst IsHistory (sym known.history) old.valid;
+  own = record { known = subst (Knows count i) (sym known.history) old.own.known; resident = resident };
+}
+
+-- at most the pool has changed
+pub alone_known : (n m : NodeState) (v : PoolView) → node_view m ≡ record (node_view n) { pool = v }
+    → KeepsKnown n m
+alone_known n m v is = record {
+  id = ap (λ (x : NodeView). x.id) is;
+  history = ap (λ (x : NodeView). x.history) is;
+}
+
 -- a caller sees what it saw
 pub same_shard : (count number latest i : ℕ) (n m : NodeState) → IsShard count number latest i n
     → node_view m ≡ node_view n → IsShard count number latest i m
-same_shard count number latest i n m old view =
-    let is : m.history ≡ n.history = ap (λ (v : NodeView). v.history) view in
-    let pool : view_of m.pool ≡ view_of n.pool = ap (λ (v : NodeView). v.pool) view in
-    record {
-      id = ap (λ (v : NodeView). v.id) view ∙ old.id;
-      horizon = ap (λ h. h.horizon) is ∙ old.horizon;
-      valid = subst IsHistory (sym is) old.valid;
-      own = record {
-        known = subst (λ h. AllByRecursion (λ e. shard_of count e.page ≡ i) (entries_of h)) (sym is) old.own.known;
-        resident = λ k p at. old.own.resident k p (ap (λ v. (frame_at v k).page) (sym pool) ∙ at);
-      };
-    }
-
--- its pool alone has changed, and has its pages alone
-pub pool_shard : (count number latest i : ℕ) (n m : NodeState) → IsShard count number latest i n
-    → node_view m ≡ record (node_view n) { pool = view_of m.pool }
-    → ((k : ℕ) (p : PageId) → (frame_at (view_of m.pool) k).page ≡ Some p → shard_of count p ≡ i)
-    → IsShard count number latest i m
-pool_shard count number latest i n m old view resident =
-    let is : m.history ≡ n.history = ap (λ (v : NodeView). v.history) view in
-    record {
-      id = ap (λ (v : NodeView). v.id) view ∙ old.id;
-      horizon = ap (λ h. h.horizon) is ∙ old.horizon;
-      valid = subst IsHistory (sym is) old.valid;
-      own = record {
-        known = subst (λ h. AllByRecursion (λ e. shard_of count e.page ≡ i) (entries_of h)) (sym is) old.own.known;
-        resident = resident;
-      };
-    }
+same_shard count number latest i n m old same =
+    known_shard count number latest i n m old (alone_known n m (view_of n.pool) same) (λ k p at. old.own.resident k p (ap (λ (x : NodeView). (frame_at x.pool k).page) (sym same) ∙ at))
 
 pub same_shards : (old new : List NodeState) → SameShards old new → 0 < length old → AreShards old
     → AreShards new
 same_shards old new same some are =
-    let number = (shard_at old 0).id in
-    let latest = (shard_at old 0).history.horizon in
-    all_shards number latest new (rw same.count are.count) (omega (arith, same.count)) (λ i lt.
-    subst (λ c. IsShard c number latest i (shard_at new i)) (sym same.count) (same_shard (length old) number latest i (shard_at old i) (shard_at new i) (are.each i (omega (arith, same.count))) (same.views i)))
+    each_still (shard_at old 0).history.horizon old new same.count are (λ i lt was. same_shard (length old) (shard_at old 0).id (shard_at old 0).history.horizon i (shard_at old i) (shard_at new i) was (same.views i))
 
 -- ---- the pages in a pool
 
-abbrev pub HasOnly : (PageId → Type 0) → PoolView → Type 0
-HasOnly P v = (k : ℕ) (p : PageId) → (frame_at v k).page ≡ Some p → P p
+-- the frames that a caller sees are unchanged
+pub frames_own : (count i : ℕ) (v w : PoolView) → w.frames ≡ v.frames → HasPagesOf count i v
+    → HasPagesOf count i w
+frames_own count i v w same own k p at =
+    own k p (ap (λ fs. let f : FrameView = get_or fs k no_frame in f.page) (sym same) ∙ at)
 
-pub only_kept : (P : PageId → Type 0) (v w : PoolView) → KeepsPages v w → HasOnly P v → HasOnly P w
-only_kept P v w keeps own k p at = own k p (sym (keeps k) ∙ at)
-
-pub only_put : (P : PageId → Type 0) (h : HistoryView) (v w : PoolView) (q : PageId) (fixes : ℕ)
-    (slot : Slot) → PutsIn h v q fixes slot w → P q → HasOnly P v → HasOnly P w
-only_put P h v w q fixes slot puts is own k p at =
-    frames_after puts (λ i f. (x : PageId) → f.page ≡ Some x → P x) (λ x here. let e : q ≡ x = cc in subst P e is) (λ j other x there. own j x there) k p at
+-- each page that was brought is of the shard
+pub all_brought : (count i : ℕ) (brought : PageId → Type 0) (v w : PoolView)
+    → BringsOnly brought v w → ((p : PageId) → brought p → shard_of count p ≡ i)
+    → HasPagesOf count i v → HasPagesOf count i w
+all_brought count i brought v w brings is own k p at =
+    elim (brings k p at) [ inl was ↦ own was.frame p was.holds | inr new ↦ is p new ]
 
 each_nth : (P : PageId → Type 0) (ps : List PageId) (i : ℕ) → AllByRecursion P ps → i < length ps
     → P (nth_page ps i)
@@ -190,13 +177,12 @@ next_is_own count i n p old next =
     let hottest = hottest_pages R (length n.pool.frames) in
     subst own next.2 (each_nth own hottest next.0 (all_take own (length n.pool.frames) (distinct falls (pages R)) all) next.1)
 
-pub absorb_refused : (n m : NodeState) (batch : List Reference) (why : NodeFault)
-    → Goes n (Absorb batch) (Refused why) m → (why ≡ Memory) × (node_view m ≡ node_view n)
-absorb_refused n m batch Memory same = (refl, same)
-absorb_refused n m batch (Pool why) none = absurd none
-absorb_refused n m batch StaleSlot none = absurd none
-
 -- the shard at an index, as the code reads it
 pub read_at : (ns : List NodeState) (i : ℕ) (n d : NodeState) → i < length ns → n ≡ get_or ns i d
     → n ≡ shard_at ns i
 read_at ns i n d lt is = at_place ns i n d no_shard lt is
+
+-- the id of the replica, as the code reads it of the first shard
+pub first_id : {ns : List NodeState} {n : NodeState} {x : ℕ} (d : NodeState) → AreShards ns
+    → n ≡ get_or ns 0 d → x ≡ n.id → x ≡ (shard_at ns 0).id
+first_id {ns} {n} {x} d are at is = is ∙ ap (λ (m : NodeState). m.id) (read_at ns 0 n d (some_shards ns are) at)

@@ -9,7 +9,7 @@ use Rattle.warm_frames.specs.Digests.{digest_at}
 use Rattle.warm_digest.specs.BucketDigests.{bucket_digest, digests_of}
 use Rattle.warm_digest.proofs.CachedLemmas.{digest_is}
 use Rattle.warm_gossip.specs.State.{NodeState}
-use Rattle.warm_shards.specs.Digests.{FillsShard}
+use Rattle.warm_visits.specs.Digests.{FillsShard}
 use Rattle.warm_shards.specs.Shards.{AreShards, shard_at, whole}
 use Rattle.warm_shards.proofs.Buckets.{bucket_whole}
 

@@ -1,21 +1,20 @@
 -- Calls that go to each shard, from the first on.
-use Rattle.std.proofs.Common.{◌≡◌, ◌≢◌, ◌⊎◌, inl, inr, ℕ, zero, suc, ◌+◌, ◌<◌, ◌≤◌, Bool, true, false, List, [], ◌∷◌, ◌++◌, length, map, max, set, get_or, take, drop, Option, Some, None, Result, Ok, Err, refl, sym, ap, subst, ◌∙◌, arith}
+use Rattle.std.proofs.Common.{◌≡◌, ◌≢◌, inl, inr, ℕ, zero, suc, ◌+◌, ◌<◌, ◌≤◌, Bool, true, false, List, [], ◌∷◌, ◌++◌, length, map, max, set, get_or, take, drop, Option, Some, None, Result, Ok, Err, refl, sym, ap, subst, ◌∙◌, arith}
 use Rattle.std.specs.Prelude.{nat_eq, nat_lt, IfErr, IsTrue, OnOk}
 use Rattle.std.proofs.Math.Dec.{leb-zero}
 use Rattle.std.proofs.Math.ListN.{get_or-map as mapped}
 use Rattle.std.proofs.lemmas.Bool.{eq-eqb, eqb-false, eqb-true, ltb-false, ltb-true}
 use Rattle.std.proofs.lemmas.List.{append-nil, drop_all, get_or-set_same, length-set, take_all}
-use Rattle.std.specs.List.{AllByRecursion}
 use Rattle.warm_stamps.specs.declared.PageId.{PageId}
 use Rattle.warm_history.specs.ReferenceSets.{set_of_list, with_horizon, ◌∪◌}
-use Rattle.warm_history.specs.Histories.{HistoryView, IsHistory, entries_of, history, history_of_entries, history_of_entries_at, references_of}
-use Rattle.warm_frame_table.specs.Frames.{FrameState, nth_frame, dirty_count}
+use Rattle.warm_history.specs.Histories.{HistoryView, history, history_of_entries, history_of_entries_at, references_of}
+use Rattle.warm_frame_table.specs.Frames.{FrameState, fresh_frame, nth_frame, dirty_count}
 use Rattle.warm_frame_table.specs.FrameSteps.{cleaned}
 use Rattle.warm_frame_table.specs.Selection.{is_from}
 use Rattle.warm_frame_table.proofs.CountLemmas.{count_most}
 use Rattle.warm_pool.specs.declared.fault.PoolFault.TheVariants.{Fault, Fixed, NoDevice}
 use Rattle.warm_pool.specs.Forgetting.{AreUnfixedFrom, ForgetRefused, MayForget}
-use Rattle.warm_pool.specs.Retiring.{Emptied, emptied}
+use Rattle.warm_pool.specs.Retiring.{Emptied}
 use Rattle.warm_pool.specs.State.{IsPool, PoolState, nth_device}
 use Rattle.warm_pool.specs.View.{FrameView, IsUnfixed, PoolView, frame_at, frame_view, view_of}
 use Rattle.warm_pool.specs.WritingBack.{WriteBackFails, cleaned_to}
@@ -27,15 +26,14 @@ use Rattle.warm_gossip.specs.declared.fault.NodeFault.TheVariants.{Pool}
 use Rattle.warm_gossip.specs.Clauses.{DevicesAfter, Goes, OfPool}
 use Rattle.warm_gossip.specs.State.{NodeState, NodeView, node_view}
 use Rattle.warm_gossip.specs.Step.{IsFailed, OnPool, Step}
-use Rattle.warm_gossip.proofs.EngineLemmas.{known_pool}
-use Rattle.warm_shards.specs.Shards.{AreShards, IsShard, IsShardCount, held, no_shard, shard_at, shard_of, whole}
+use Rattle.warm_gossip.proofs.BringsLemmas.{vacant}
+use Rattle.warm_shards.specs.Shards.{AreShards, IsShard, held, no_shard, shard_at, whole}
 use Rattle.warm_shards.specs.EachShard.{DeviceFails, HasFixed, HasForgotten, IsClean, IsUnchanged, IsWritten, OfEach, OfFirst, RestartRefused, RestartStops, Rises, ShardFlushFails, ShardForgetsPages, ShardRestarts, ShardSettles, ShardWriteFails}
 use Rattle.warm_shards.specs.EachShard.{ShardsAreUnfixed, StopsAtShard, WriteBackStops}
 use Rattle.warm_shards.proofs.Buckets.{shard_horizon}
-use Rattle.warm_shards.proofs.Calls.{HasOnly, pool_shard, read_at, same_shard}
-use Rattle.warm_shards.proofs.EngineCalls.{forgotten_own, same_own}
-use Rattle.warm_shards.proofs.AreShardsLemmas.{all_shards, at_each, some_shards}
-use Rattle.warm_shards.proofs.PoolCalls.{OnlyPool}
+use Rattle.warm_shards.proofs.Calls.{alone_known, known_shard, read_at, same_shard}
+use Rattle.warm_shards.proofs.EngineCalls.{forgotten_own, frames_shard}
+use Rattle.warm_shards.proofs.AreShardsLemmas.{at_each, each_still, empty_shard, some_shards}
 use Rattle.warm_shards.proofs.WholeLemmas.{none_joined}
 
 abbrev pub Change : Type 1
@@ -114,33 +112,10 @@ pub each_shards : (later : ℕ) (change : Change) (old new : List NodeState)
     → StaysShard (shard_at old 0).history.horizon later change → AreShards old
     → OfEach change old new → AreShards new
 each_shards later change old new stays are have =
-    let number = (shard_at old 0).id in
-    let some = some_shards old are in
-    all_shards number later new (subst IsShardCount (sym have.count) are.count) (omega (arith, have.count)) (λ i lt.
-    subst (λ c. IsShard c number later i (shard_at new i)) (sym have.count) (stays (length old) number i (shard_at old i) (shard_at new i) (are.each i (omega (arith, have.count))) (have.each i (omega (arith, have.count)))))
-
-abbrev Either : Change → Change → Change → Change
-Either f g h = λ n m. f n m ⊎ (g n m ⊎ h n m)
+    each_still later old new have.count are (λ i lt was. stays (length old) (shard_at old 0).id i (shard_at old i) (shard_at new i) was (have.each i lt))
 
 above : (i k : ℕ) → k ≤ i → i ≢ k → k < i
 above i k le other = omega (arith, le, other)
-
-stops_each : (done fails left : Change) (old new : List NodeState) → StopsAtShard done fails left old new
-    → OfEach (Either done fails left) old new
-stops_each done fails left old new have = record {
-  count = have.count;
-  each = λ i lt. cases i lt (nat_eq i have.shard) refl (nat_lt i have.shard) refl;
-}
-  where
-    cases : (i : ℕ) → i < length old → (b : Bool) → nat_eq i have.shard ≡ b → (l : Bool)
-        → nat_lt i have.shard ≡ l → Either done fails left (shard_at old i) (shard_at new i)
-    cases i lt true is l less =
-        let same : i ≡ have.shard = eqb-true i have.shard is in
-        inr (inl (subst (λ x. fails (shard_at old x) (shard_at new x)) (sym same) have.at))
-    cases i lt false is true less = inl (have.before i (ltb-true i have.shard less))
-    cases i lt false is false less =
-        let over : have.shard ≤ i = ltb-false i have.shard less in
-        inr (inr (have.after i (above i have.shard over (eqb-false i have.shard is)) lt))
 
 pub stops_shards : (done fails left : Change) (old new : List NodeState)
     → StaysShard (shard_at old 0).history.horizon (shard_at old 0).history.horizon done
@@ -148,23 +123,26 @@ pub stops_shards : (done fails left : Change) (old new : List NodeState)
     → StaysShard (shard_at old 0).history.horizon (shard_at old 0).history.horizon left
     → AreShards old → StopsAtShard done fails left old new → AreShards new
 stops_shards done fails left old new one two three are have =
-    each_shards (shard_at old 0).history.horizon (Either done fails left) old new (λ count number i n m was by. elim by [
-      | inl x ↦ one count number i n m was x
-      | inr y ↦ elim y [ inl x ↦ two count number i n m was x | inr x ↦ three count number i n m was x ]
-    ]) are (stops_each done fails left old new have)
-
-pub pool_stays : (latest : ℕ) (change : Change)
-    → ((P : PageId → Type 0) (n m : NodeState) → HasOnly P (view_of n.pool) → change n m → OnlyPool P n m)
-    → StaysShard latest latest change
-pool_stays latest change only count number i n m was by =
-    let pool = only (λ p. shard_of count p ≡ i) n m was.own.resident by in
-    pool_shard count number latest i n m was pool.alone pool.own
+    each_still (shard_at old 0).history.horizon old new have.count are (λ i lt was. cases i lt was (nat_eq i have.shard) refl (nat_lt i have.shard) refl)
+  where
+    cases : (i : ℕ) → i < length old → IsShard (length old) (shard_at old 0).id (shard_at old 0).history.horizon i (shard_at old i)
+        → (b : Bool) → nat_eq i have.shard ≡ b → (l : Bool) → nat_lt i have.shard ≡ l
+        → IsShard (length old) (shard_at old 0).id (shard_at old 0).history.horizon i (shard_at new i)
+    cases i lt was true is l less =
+        let same : i ≡ have.shard = eqb-true i have.shard is in
+        two (length old) (shard_at old 0).id i (shard_at old i) (shard_at new i) was (subst (λ x. fails (shard_at old x) (shard_at new x)) (sym same) have.at)
+    cases i lt was false is true less =
+        one (length old) (shard_at old 0).id i (shard_at old i) (shard_at new i) was (have.before i (ltb-true i have.shard less))
+    cases i lt was false is false less =
+        let over : have.shard ≤ i = ltb-false i have.shard less in
+        three (length old) (shard_at old 0).id i (shard_at old i) (shard_at new i) was (have.after i (above i have.shard over (eqb-false i have.shard is)) lt)
 
 pub unchanged_stays : (latest : ℕ) → StaysShard latest latest IsUnchanged
 unchanged_stays latest count number i n m was same = subst (IsShard count number latest i) (sym same) was
 
 pub forgets_stays : (latest dev from : ℕ) → StaysShard latest latest (ShardForgetsPages dev from)
-forgets_stays latest dev from = pool_stays latest (ShardForgetsPages dev from) (λ P n m own by. forgotten_own P n m dev from own by.0 by.1)
+forgets_stays latest dev from count number i n m was by =
+    known_shard count number latest i n m was by.0 (forgotten_own count i n.pool m.pool dev from by.1 was.own.resident)
 
 pub written_stays : (latest : ℕ) → StaysShard latest latest IsWritten
 written_stays latest count number i n m was by = same_shard count number latest i n m was by.0
@@ -173,23 +151,17 @@ pub settles_stays : (latest : ℕ) → StaysShard latest latest ShardSettles
 settles_stays latest count number i n m was by = same_shard count number latest i n m was by.0
 
 pub write_fails_stays : (latest : ℕ) → StaysShard latest latest ShardWriteFails
-write_fails_stays latest = pool_stays latest ShardWriteFails (λ P n m own by. record {
-  alone = known_pool n m by.0;
-  own = same_own P (view_of n.pool) (view_of m.pool) (ap (λ (v : PoolView). v.frames) by.1.fails.becomes) own;
-})
+write_fails_stays latest count number i n m was by =
+    frames_shard count number latest i n m by.0 (ap (λ (v : PoolView). v.frames) by.1.fails.becomes) was
 
 pub flush_fails_stays : (latest : ℕ) → StaysShard latest latest ShardFlushFails
-flush_fails_stays latest = pool_stays latest ShardFlushFails (λ P n m own by. record {
-  alone = by.0.0;
-  own = same_own P (view_of n.pool) (view_of m.pool) (ap (λ (v : PoolView). v.frames) by.0.1.1.becomes) own;
-})
+flush_fails_stays latest count number i n m was by =
+    frames_shard count number latest i n m (alone_known n m _ by.0.0) (ap (λ (v : PoolView). v.frames) by.0.1.1.becomes) was
 
 -- ---- writing back
 
 all_cleaned : (frames : List FrameState) (i : ℕ) → (nth_frame (map cleaned frames) i).dirty ≡ false
-all_cleaned [] i = refl
-all_cleaned (f ∷ fs) zero = refl
-all_cleaned (f ∷ fs) (suc i) = all_cleaned fs i
+all_cleaned frames i = ap (λ (f : FrameState). f.dirty) (mapped cleaned frames i (fresh_frame []))
 
 clean_all : (frames : List FrameState) (n : ℕ) → length frames ≤ n
     → cleaned_to n frames ≡ map cleaned frames
@@ -315,42 +287,16 @@ unfolding gone_stops
 fails_risen horizon fails old ns new k n m d lt at by have risen =
     stops_risen horizon fails old (set ns k m) new k (gone_stops ShardRestarts fails old ns k n m d lt at by have) refl risen
 
-abbrev no_frame : FrameView
-no_frame = record { page = None; generation = 0; fixes = 0 }
-
-all_emptied : (fs : List FrameView) (k : ℕ) → (get_or (map emptied fs) k no_frame).page ≡ None
-all_emptied [] k = refl
-all_emptied (f ∷ fs) zero = refl
-all_emptied (f ∷ fs) (suc k) = all_emptied fs k
-
-pub vacant : (v w : PoolView) → Emptied v w → (k : ℕ) (p : PageId) → (frame_at w k).page ≡ Some p → ⊥
-vacant v w gone k p at =
-    let none : (frame_at w k).page ≡ None = ap (λ (x : PoolView). (frame_at x k).page) gone.becomes ∙ all_emptied v.frames k in
-    let no : None ≡ Some p = sym none ∙ at in cc
-
-empty_shard : (count number i horizon : ℕ) (v : PoolView) (m : NodeState) → m.id ≡ number
-    → m.history ≡ history_of_entries_at horizon [] → Emptied v (view_of m.pool)
-    → IsShard count number horizon i m
-empty_shard count number i horizon v m id none gone = record {
-  id = id;
-  horizon = ap (λ (h : HistoryView). h.horizon) none;
-  valid = subst IsHistory (sym none) (record { pages_ascend = tt; stamps_descend = tt; none_older = tt });
-  own = record {
-    known = subst (λ h. AllByRecursion (λ e. shard_of count e.page ≡ i) (entries_of h)) (sym none) tt;
-    resident = λ k p at. absurd (vacant v (view_of m.pool) gone k p at);
-  };
-}
-
 pub restarts_stays : (latest : ℕ) → StaysShard latest 0 ShardRestarts
 restarts_stays latest count number i n m was by =
-    empty_shard count number i 0 (view_of n.pool) m (ap (λ (v : NodeView). v.id) by.0.0 ∙ was.id) (ap (λ (v : NodeView). v.history) by.0.0) by.0.1
+    empty_shard count number i 0 m (ap (λ (v : NodeView). v.id) by.0.0 ∙ was.id) (ap (λ (v : NodeView). v.history) by.0.0) (vacant (view_of n.pool) (view_of m.pool) by.0.1)
 
 pub forgotten_stays : (latest horizon : ℕ) → horizon ≡ latest
     → StaysShard latest latest (HasForgotten horizon)
 forgotten_stays latest horizon same count number i n m was by =
-    subst (λ (h : ℕ). IsShard count number h i m) same (empty_shard count number i horizon (view_of n.pool) m (by.id ∙ was.id) by.history by.emptied)
+    subst (λ (h : ℕ). IsShard count number h i m) same (empty_shard count number i horizon m (by.id ∙ was.id) by.history (vacant (view_of n.pool) (view_of m.pool) by.emptied))
 
-none_held : (ns : List NodeState)
+pub none_held : (ns : List NodeState)
     → ((i : ℕ) → i < length ns → (shard_at ns i).history ≡ history_of_entries [])
     → held ns ≡ set_of_list []
 none_held [] all = refl

@@ -10,7 +10,8 @@ use Rattle.warm_history.specs.ReferenceSets.{set_of_list}
 use Rattle.warm_history.specs.Histories.{history, history_of_entries_at}
 use Rattle.warm_pool.specs.State.{fresh_pool}
 use Rattle.warm_gossip.specs.State.{NodeState}
-use Rattle.warm_shards.specs.Shards.{IsShardCount, of_first_shards, of_shard, shard_of, whole}
+use Rattle.warm_shards.specs.Shards.{whole}
+use Rattle.warm_visits.specs.ShardNumbers.{IsShardCount, of_first_shards, of_shard, shard_of}
 
 -- one shard, four, and 64; but not three, and not 128
 one : IsShardCount 1

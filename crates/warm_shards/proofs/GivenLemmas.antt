@@ -1,32 +1,32 @@
 -- If each shard is given its part of a set of references, all together are given the set.
 use Rattle.std.proofs.Common.{◌≡◌, ◌⊎◌, inl, inr, ℕ, zero, suc, ◌+◌, ◌<◌, ◌≤◌, Bool, true, false, List, [], ◌∷◌, length, max, set, get_or, Result, Ok, Err, refl, sym, ap, subst, ◌∙◌, arith}
-use Rattle.std.specs.Prelude.{nat_eq, nat_lt, IfErr, OnOk}
+use Rattle.std.specs.Prelude.{nat_eq, nat_lt}
 use Rattle.std.specs.List.{AllByRecursion}
 use Rattle.std.proofs.lemmas.Bool.{cases_eq, eqb-true, le-ltb, lt-ltb, ltb-false, ltb-true}
 use Rattle.std.proofs.lemmas.List.{length-set}
 use Rattle.warm_stamps.specs.declared.PageId.{PageId}
 use Rattle.warm_stamps.specs.declared.Reference.{Reference}
-use Rattle.warm_history.specs.Entry.{Entry}
-use Rattle.warm_history.specs.ReferenceSets.{ReferenceSet, set_of_list, ◌∪◌}
-use Rattle.warm_history.specs.Histories.{HistoryView, IsHistory, history, history_of_entries_at, references_of}
+use Rattle.warm_history.specs.ReferenceSets.{ReferenceSet, ◌∪◌}
+use Rattle.warm_history.specs.Histories.{HistoryView, IsHistory, history, references_of}
 use Rattle.warm_history.proofs.HistoryLemmas.{horizon-history}
 use Rattle.warm_history.proofs.JoinLemmas.{both_assoc, history_first, raised_to_no_later}
 use Rattle.warm_pool.specs.Unchanged.{KeepsBytes}
 use Rattle.warm_pool.specs.View.{view_of}
-use Rattle.warm_gossip.specs.declared.call.Call.TheVariants.{Absorb}
 use Rattle.warm_gossip.specs.declared.fault.NodeFault.{NodeFault}
 use Rattle.warm_gossip.specs.declared.fault.NodeFault.TheVariants.{Memory}
-use Rattle.warm_gossip.specs.Clauses.{Answered, DevicesAnswered, JoinsEntries, SameView, done}
 use Rattle.warm_gossip.specs.State.{NodeState, NodeView, empty_node, node_view}
 use Rattle.warm_shards.specs.Clauses.{HasPart, TakesInFirst}
-use Rattle.warm_shards.specs.Given.{AreGiven, Gives, GivesOne, IsGiven, IsSame, at_horizon}
-use Rattle.warm_shards.specs.Shards.{AreShards, IsShard, IsShardCount, no_shard, of_first_shards, of_shard, shard_at, shard_of, whole}
-use Rattle.warm_shards.proofs.AreShardsLemmas.{all_shards, at_each, some_shards}
+use Rattle.warm_shards.specs.Given.{AreGiven, Gives}
+use Rattle.warm_visits.specs.Given.{GivesOne, IsGiven, IsSame, at_horizon}
+use Rattle.warm_shards.specs.Shards.{AreShards, no_shard, shard_at, whole}
+use Rattle.warm_visits.specs.ShardNumbers.{of_first_shards, of_shard, shard_of}
+use Rattle.warm_shards.proofs.AreShardsLemmas.{at_each, each_still, some_shards}
 use Rattle.warm_shards.proofs.Buckets.{shard_horizon}
-use Rattle.warm_shards.proofs.Calls.{absorb_refused, bytes_after, bytes_same, keep_then, read_at, takes_shard}
-use Rattle.warm_shards.proofs.Dividing.{only_part, other_part, part_is_own}
-use Rattle.warm_shards.proofs.Lists.{filter_none, filter_within}
-use Rattle.warm_shards.proofs.PartLemmas.{no_part}
+use Rattle.warm_shards.proofs.Calls.{bytes_after, keep_then, read_at, takes_shard}
+use Rattle.warm_visits.proofs.GivenLemmas.{bytes_same}
+use Rattle.warm_visits.proofs.PartListLemmas.{only_part, other_part, part_is_own}
+use Rattle.warm_visits.proofs.Lists.{filter_none, filter_within}
+use Rattle.warm_visits.proofs.PartLemmas.{no_part}
 use Rattle.warm_shards.proofs.WholeParts.{parts_taken}
 
 -- ---- the step
@@ -36,34 +36,28 @@ pub record EachIsGiven (S : ReferenceSet) (old new : List NodeState) : Type 0 wh
   pub count : length new ≡ length old
   pub each : (i : ℕ) → i < length old → IsGiven (of_shard (length old) i S) (shard_at old i) (shard_at new i)
 
-pub beyond : (ns : List NodeState) (i : ℕ) → length ns ≤ i → shard_at ns i ≡ no_shard
-beyond [] i le = refl
-beyond (n ∷ ns) zero le = absurd (omega arith)
-beyond (n ∷ ns) (suc i) le = beyond ns i (omega arith)
+-- what is so of each shard, and of what is read beyond the last, is so at each number
+pub everywhere : (R : NodeState → NodeState → Type 0) → R no_shard no_shard → (old new : List NodeState)
+    → length new ≡ length old → ((i : ℕ) → i < length old → R (shard_at old i) (shard_at new i))
+    → (i : ℕ) → R (shard_at old i) (shard_at new i)
+everywhere R none [] [] long each i = none
+everywhere R none [] (m ∷ ms) long each i = absurd (omega arith)
+everywhere R none (n ∷ ns) [] long each i = absurd (omega arith)
+everywhere R none (n ∷ ns) (m ∷ ms) long each zero = each 0 (omega arith)
+everywhere R none (n ∷ ns) (m ∷ ms) long each (suc i) =
+    everywhere R none ns ms (omega arith) (λ j lt. each (suc j) (omega arith)) i
 
 kept : (S : ReferenceSet) (old new : List NodeState) → EachIsGiven S old new → (i : ℕ)
     → (view_of (shard_at new i).pool ≡ view_of (shard_at old i).pool)
     × KeepsBytes (shard_at old i).pool (shard_at new i).pool
-kept S old new have i = cases (nat_lt i (length old)) refl
-  where
-    cases : (b : Bool) → nat_lt i (length old) ≡ b
-        → (view_of (shard_at new i).pool ≡ view_of (shard_at old i).pool)
-        × KeepsBytes (shard_at old i).pool (shard_at new i).pool
-    cases true is =
-        let given = have.each i (ltb-true i (length old) is) in
-        (ap (λ (v : NodeView). v.pool) given.0, given.1)
-    cases false is =
-        let over : length old ≤ i = ltb-false i (length old) is in
-        let same : shard_at new i ≡ shard_at old i = beyond new i (omega (arith, over, have.count)) ∙ sym (beyond old i over) in
-        (ap (λ (n : NodeState). view_of n.pool) same, subst (λ (n : NodeState). KeepsBytes (shard_at old i).pool n.pool) (sym same) (bytes_same (shard_at old i).pool))
+kept S old new have =
+    everywhere (λ n m. (view_of m.pool ≡ view_of n.pool) × KeepsBytes n.pool m.pool) (refl, bytes_same no_shard.pool) old new have.count (λ i lt. (ap (λ (v : NodeView). v.pool) (have.each i lt).0, (have.each i lt).1))
 
 still : (S : ReferenceSet) (old new : List NodeState) → AreShards old → EachIsGiven S old new
     → AreShards new
 still S old new are have =
-    let number = (shard_at old 0).id in
-    let later = max (shard_at old 0).history.horizon S.horizon in
-    all_shards number later new (subst IsShardCount (sym have.count) are.count) (omega (arith, have.count, some_shards old are)) (λ i lt.
-    subst (λ c. IsShard c number later i (shard_at new i)) (sym have.count) (takes_shard (length old) number (shard_at old 0).history.horizon i (shard_at old i) (shard_at new i) (of_shard (length old) i S) (are.each i (omega (arith, lt, have.count))) (have.each i (omega (arith, lt, have.count))).0 (part_is_own (λ (r : Reference). r.page) (length old) i S.given)))
+    each_still (max (shard_at old 0).history.horizon S.horizon) old new have.count are (λ i lt was.
+    takes_shard (length old) (shard_at old 0).id (shard_at old 0).history.horizon i (shard_at old i) (shard_at new i) (of_shard (length old) i S) was (have.each i lt).0 (part_is_own (λ (r : Reference). r.page) (length old) i S.given))
 
 -- after each shard was given its part of S, all together have been given S
 pub given_all : (S : ReferenceSet) (old new : List NodeState) → AreShards old
@@ -304,20 +298,3 @@ raised_gives old mid new time S (Err why) at raised gives = record {
   refused = (gives.refused.0, first_raised old mid new time S at raised gives.refused.1);
   pools = keep_then old mid new raised.pools gives.pools;
 }
-
--- ---- a batch, and entries
-
-pub absorbs : (batch : List Reference) (n m : NodeState) (result : Result Unit NodeFault)
-    → Answered n (Absorb batch) done result m → DevicesAnswered n (Absorb batch) done result m
-    → GivesOne (set_of_list batch) n result m
-absorbs batch n m (Ok given) step devices = record { given = (step, devices); refused = tt }
-absorbs batch n m (Err why) step devices =
-    let refused = absorb_refused n m batch why step in
-    record { given = tt; refused = (refused.0, (refused.1, devices)) }
-
-pub joins : (horizon : ℕ) (es : List Entry) (n m : NodeState) (result : Result Unit NodeFault)
-    → OnOk result (JoinsEntries n horizon es m)
-    → IfErr result (λ why. (why ≡ Memory) × SameView n m) → KeepsBytes n.pool m.pool
-    → GivesOne (references_of (history_of_entries_at horizon es)) n result m
-joins horizon es n m (Ok given) joined refused devices = record { given = (joined, devices); refused = tt }
-joins horizon es n m (Err why) joined refused devices = record { given = tt; refused = (refused.0, (refused.1, devices)) }

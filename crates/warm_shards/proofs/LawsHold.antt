@@ -1,17 +1,15 @@
 -- The laws of shards.
-use Rattle.std.proofs.Common.{◌≡◌, ◌≢◌, ◌⊎◌, inl, inr, length, Some, sym, ap, ◌∙◌}
-use Rattle.warm_stamps.specs.declared.PageId.{PageId}
+use Rattle.std.proofs.Common.{inl, inr, length, Some, sym, ap, ◌∙◌}
 use Rattle.warm_history.specs.ReferenceSets.{◌∪◌}
-use Rattle.warm_history.specs.Histories.{HistoryView, history, references_of}
+use Rattle.warm_history.specs.Histories.{history, references_of}
 use Rattle.warm_history.proofs.JoinLemmas.{history_first, history_of_own_references}
-use Rattle.warm_rank.specs.Ranking.{IsVictim}
 use Rattle.warm_rank.proofs.VictimLemmas.{victim_is_farthest}
-use Rattle.warm_pool.specs.View.{PoolView, frame_at, unfixed_pages, view_of}
+use Rattle.warm_pool.specs.View.{unfixed_pages, view_of}
 use Rattle.warm_gossip.specs.State.{empty_node, node_view}
-use Rattle.warm_gossip.specs.Victims.{IsEvicted}
-use Rattle.warm_gossip.proofs.VictimLemmas.{KeepsPages, PutsPage, frames_after, step_leads, victim_left}
+use Rattle.warm_gossip.proofs.VictimLemmas.{leaves_as_victim, step_leads}
 use Rattle.warm_shards.specs.Laws.{FirstAreGiven, ShardVictimsAreFarthest, ShardsStand, WholeIsOfGiven}
-use Rattle.warm_shards.specs.Shards.{as_node, of_first_shards, shard_at, whole}
+use Rattle.warm_shards.specs.Shards.{as_node, shard_at, whole}
+use Rattle.warm_visits.specs.ShardNumbers.{of_first_shards}
 use Rattle.warm_shards.proofs.DigestLemmas.{digest_whole}
 use Rattle.warm_shards.proofs.StandsForLemmas.{shard_stands}
 use Rattle.warm_shards.proofs.Victims.{victim_whole}
@@ -32,17 +30,12 @@ shards_stand S shards i are lt stands = record {
   digests = λ bucket low is. digest_whole shards i bucket are lt low is;
 }
 
--- a page that leaves was the victim over what the history holds
-leaves_as_victim : (h : HistoryView) (v w : PoolView) → KeepsPages v w ⊎ PutsPage h v w
-    → (q : PageId) → IsEvicted v w q → IsVictim (references_of h) (unfixed_pages v) (Some q)
-leaves_as_victim h v w (inl keeps) q (was, gone) = absurd (gone was.frame (keeps was.frame ∙ was.holds))
-leaves_as_victim h v w (inr puts) q (was, gone) =
-    frames_after puts.3 (λ i f. (frame_at v i).page ≡ Some q → f.page ≢ Some q → IsVictim (references_of h) (unfixed_pages v) (Some q))
-    (λ held other. (victim_left puts.3 q held).1) (λ j other held none. absurd (none held)) was.frame was.holds (gone was.frame)
-
 pub victims_are_farthest : ShardVictimsAreFarthest
 victims_are_farthest S shards i new call reply v are lt stands step other gone =
     let h = (shard_at shards i).history in
     let pool = view_of (shard_at shards i).pool in
     let leads = step_leads (references_of h) call reply (node_view (shard_at shards i)) new (sym (history_of_own_references h (are.each i lt).valid)) step in
-    victim_is_farthest (whole shards) S stands (unfixed_pages pool) v (victim_whole shards i (Some v) are lt (leaves_as_victim h pool new.pool (leads.1 other) v gone))
+    victim_is_farthest (whole shards) S stands (unfixed_pages pool) v (victim_whole shards i (Some v) are lt (elim (leads.1 other) [
+      | inl keeps ↦ absurd (gone.1 gone.0.frame (keeps gone.0.frame ∙ gone.0.holds))
+      | inr puts ↦ leaves_as_victim puts.3 v gone
+    ]))

@@ -1,18 +1,16 @@
 -- Shards that are opened.
-use Rattle.std.proofs.Common.{◌≡◌, ℕ, zero, suc, ◌<◌, List, [], ◌∷◌, map, length, get_or, Option, Some, None, refl, sym, ap, subst, ◌∙◌, arith}
-use Rattle.std.specs.List.{AllByRecursion}
-use Rattle.warm_history.specs.ReferenceSets.{set_of_list, ◌∪◌}
-use Rattle.warm_history.specs.Histories.{IsHistory, entries_of, history, history_of_entries, references_of}
+use Rattle.std.proofs.Common.{◌≡◌, ℕ, zero, suc, List, [], ◌∷◌, map, length, get_or, Option, Some, None, refl, sym, ap, ◌∙◌}
+use Rattle.warm_history.specs.Histories.{history, history_of_entries}
 use Rattle.warm_stamps.specs.declared.PageId.{PageId}
 use Rattle.warm_rank.specs.Laws.{pages_in}
 use Rattle.warm_pool.specs.View.{FrameView, view_of}
 use Rattle.warm_gossip.specs.State.{NodeState}
-use Rattle.warm_shards.specs.Shards.{AreOpened, AreShards, IsOpened, IsShard, held, no_shard, shard_at, shard_of, whole}
-use Rattle.warm_shards.proofs.AreShardsLemmas.{all_shards, some_count}
+use Rattle.warm_gossip.proofs.VictimLemmas.{no_frame}
+use Rattle.warm_shards.specs.Shards.{AreOpened, AreShards, IsOpened, IsShard, no_shard, shard_at, whole}
+use Rattle.warm_shards.proofs.AreShardsLemmas.{all_shards, empty_shard}
+use Rattle.warm_shards.proofs.EachShardLemmas.{none_held}
+use Rattle.warm_visits.proofs.ErrandLemmas.{some_count}
 use Rattle.warm_shards.proofs.WholeLemmas.{none_joined}
-
-abbrev no_frame : FrameView
-no_frame = record { page = None; generation = 0; fixes = 0 }
 
 vacant_frames : (fs : List FrameView) → pages_in (map (λ f. f.page) fs) ≡ [] → (k : ℕ) (p : PageId)
     → (get_or fs k no_frame).page ≡ Some p → ⊥
@@ -32,29 +30,13 @@ opened_history id n opened = λ i. record { horizon = opened.horizon i; entries 
 
 opened_shard : (count id i : ℕ) (n : NodeState) → IsOpened id n → IsShard count id 0 i n
 opened_shard count id i n opened =
-    let none = opened_history id n opened in
-    record {
-      id = opened.id;
-      horizon = opened.horizon;
-      valid = subst IsHistory (sym none) (record { pages_ascend = tt; stamps_descend = tt; none_older = tt });
-      own = record {
-        known = subst (λ h. AllByRecursion (λ e. shard_of count e.page ≡ i) (entries_of h)) (sym none) tt;
-        resident = λ k p at. absurd (vacant_frames (view_of n.pool).frames opened.vacant k p at);
-      };
-    }
+    empty_shard count id i 0 n opened.id (opened_history id n opened) (vacant_frames (view_of n.pool).frames opened.vacant)
 
 pub opened_shards : (id : ℕ) (ns : List NodeState) → AreOpened id ns → AreShards ns
 opened_shards id ns opened =
     all_shards id 0 ns opened.count (some_count (length ns) opened.count) (λ i lt. opened_shard (length ns) id i (shard_at ns i) (opened.each i no_shard lt))
 
-none_held : (id : ℕ) (ns : List NodeState)
-    → ((i : ℕ) → i < length ns → IsOpened id (shard_at ns i)) → held ns ≡ set_of_list []
-none_held id [] all = refl
-none_held id (n ∷ ns) all =
-    ap (λ h. references_of h ∪ held ns) (opened_history id n (all 0 (omega arith)))
-    ∙ ap (λ S. references_of (history_of_entries []) ∪ S) (none_held id ns (λ i lt. all (suc i) (omega arith)))
-
 -- opened shards stand for no reference
 pub opened_whole : (id : ℕ) (ns : List NodeState) → AreOpened id ns
     → whole ns ≡ history_of_entries []
-opened_whole id ns opened = ap history (none_held id ns (λ i lt. opened.each i no_shard lt)) ∙ sym none_joined
+opened_whole id ns opened = ap history (none_held ns (λ i lt. opened_history id (shard_at ns i) (opened.each i no_shard lt))) ∙ sym none_joined

@@ -9,7 +9,8 @@ use Rattle.warm_gossip.specs.declared.call.Reply.TheVariants.{Answers}
 use Rattle.warm_peer.specs.Answers.{AnswersDigests, requested_messages}
 use Rattle.warm_gossip.specs.State.{NodeState}
 use Rattle.warm_shards.specs.Clauses.{SameShards, TakesInAll, Together}
-use Rattle.warm_shards.specs.Given.{AreGiven, at_horizon}
+use Rattle.warm_shards.specs.Given.{AreGiven}
+use Rattle.warm_visits.specs.Given.{at_horizon}
 use Rattle.warm_shards.specs.Shards.{shard_at, whole}
 use Rattle.warm_shards.proofs.Calls.{same_ids, same_whole}
 use Rattle.warm_shards.proofs.GivenLemmas.{given_id, whole_given}

@@ -1,28 +1,16 @@
 -- The pages in a pool, looked up among those that its devices have.
-use Rattle.std.proofs.Common.{◌≡◌, ℕ, zero, suc, ◌<◌, List, [], ◌∷◌, ◌++◌, map, length, get_or, Some, None, refl, sym, ap, ◌∙◌, arith}
+use Rattle.std.proofs.Common.{◌≡◌, ℕ, ◌<◌, List, [], ◌∷◌, ◌++◌, map, length, get_or, Some, sym, ap, ◌∙◌, arith}
 use Rattle.std.proofs.Math.ListN.{get_or-map as mapped}
+use Rattle.std.proofs.lemmas.List.{length-map}
 use Rattle.std.specs.List.{AllByRecursion}
-use Rattle.warm_stamps.specs.declared.PageId.{PageId}
 use Rattle.warm_devices.specs.Device.{DeviceState}
 use Rattle.warm_frame_table.specs.Frames.{nth_frame}
 use Rattle.warm_pool.specs.State.{IsPool, PoolState, no_device, nth_device}
-use Rattle.warm_pool.specs.View.{FrameView, IsResident, PoolView, frame_at, frame_view, view_of}
+use Rattle.warm_pool.specs.View.{FrameView, PoolView, frame_view, view_of}
+use Rattle.warm_gossip.proofs.BringsLemmas.{is_resident}
+use Rattle.warm_shards.proofs.Places.{read_at}
 use Rattle.warm_shards.specs.ShardsOfNodes.{AreOwnOf}
 use Rattle.warm_shards.specs.Shards.{HasPagesOf}
-
-abbrev no_frame : FrameView
-no_frame = record { page = None; generation = 0; fixes = 0 }
-
-there_is : (fs : List FrameView) (k : ℕ) (p : PageId) → (get_or fs k no_frame).page ≡ Some p
-    → k < length fs
-there_is [] k p at = let no : None ≡ Some p = at in absurd (cc)
-there_is (f ∷ fs) zero p at = omega arith
-there_is (f ∷ fs) (suc k) p at = let lt = there_is fs k p at in omega (arith, lt)
-
--- a page in a frame is resident
-pub is_resident : (v : PoolView) (k : ℕ) (p : PageId) → (frame_at v k).page ≡ Some p
-    → IsResident v p
-is_resident v k p at = record { frame = k; there = there_is v.frames k p at; holds = at }
 
 -- if the resident pages of each device are of the shard, all are
 pub all_own : (count i : ℕ) (s : PoolState) → IsPool s
@@ -42,13 +30,9 @@ pub device_read : {B : Type 0} (shown : B → DeviceState) (ds : List B) (s : Po
     (d x : B) → map shown ds ≡ s.devices → k < length ds → x ≡ get_or ds k d
     → shown x ≡ nth_device s.devices k
 device_read shown ds s k d x is lt at =
-    ap shown at ∙ shown_at shown ds k d lt ∙ ap (λ xs. get_or xs k no_device) is
-  where
-    shown_at : {B : Type 0} (f : B → DeviceState) (xs : List B) (k : ℕ) (d : B) → k < length xs
-        → f (get_or xs k d) ≡ get_or (map f xs) k no_device
-    shown_at f [] k d lt = absurd (omega arith)
-    shown_at f (x ∷ xs) zero d lt = refl
-    shown_at f (x ∷ xs) (suc k) d lt = shown_at f xs k d (omega arith)
+    ap shown at
+    ∙ read_at (map shown ds) k (shown (get_or ds k d)) (shown d) no_device (omega (arith, lt, length-map ds shown)) (sym (mapped shown ds k d))
+    ∙ ap (λ xs. get_or xs k no_device) is
 
 -- what is true of each item is true of one between others
 pub one_between : {A : Type 0} (P : A → Type 0) (xs : List A) (x : A) (ys : List A)

@@ -7,11 +7,13 @@ use Rattle.warm_history.proofs.HistoryLemmas.{IsHistory-history, horizon-history
 use Rattle.warm_history.proofs.JoinLemmas.{raised_to_no_later}
 use Rattle.warm_gossip.specs.State.{NodeState, NodeView}
 use Rattle.warm_shards.specs.ShardsOfNodes.{CanBeShards}
-use Rattle.warm_shards.specs.Shards.{AreShards, IsShard, IsShardCount, held, shard_at, whole}
-use Rattle.warm_shards.specs.Given.{at_horizon}
+use Rattle.warm_shards.specs.Shards.{AreShards, IsShard, held, shard_at, whole}
+use Rattle.warm_visits.specs.ShardNumbers.{IsShardCount}
+use Rattle.warm_visits.specs.Given.{at_horizon}
 use Rattle.warm_shards.specs.EachShard.{OfEach, OfFirst, Rises}
 use Rattle.warm_shards.proofs.Calls.{takes_own}
-use Rattle.warm_shards.proofs.AreShardsLemmas.{all_shards, some_count}
+use Rattle.warm_shards.proofs.AreShardsLemmas.{all_shards}
+use Rattle.warm_visits.proofs.ErrandLemmas.{some_count}
 use Rattle.warm_shards.proofs.EachShardLemmas.{gone_all}
 use Rattle.warm_shards.proofs.WholeLemmas.{whole_more}
 use Rattle.warm_shards.proofs.WholeParts.{parts_taken}

@@ -17,10 +17,11 @@ use Rattle.warm_history.proofs.CarriedLemmas.{references-those}
 use Rattle.warm_history.proofs.HistoryLemmas.{hist_refs-history, horizon-history, same_hists}
 use Rattle.warm_history.proofs.JoinLemmas.{history_of_own_references}
 use Rattle.warm_gossip.specs.State.{NodeState}
-use Rattle.warm_shards.specs.Shards.{AreShards, of_shard, shard_at, shard_of, whole}
+use Rattle.warm_shards.specs.Shards.{AreShards, shard_at, whole}
+use Rattle.warm_visits.specs.ShardNumbers.{of_shard, shard_of}
 use Rattle.warm_shards.proofs.Buckets.{shard_horizon}
 use Rattle.warm_shards.proofs.WholeLemmas.{hist_whole, hist_elsewhere}
-use Rattle.warm_shards.proofs.Lists.{filter_none, filter_within}
+use Rattle.warm_visits.proofs.Lists.{filter_none, filter_within}
 
 -- the latest stamps in a list of references to one page
 abbrev latest_in : List Reference → Option PageHist

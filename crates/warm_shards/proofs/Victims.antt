@@ -10,7 +10,8 @@ use Rattle.warm_rank.specs.Ranking.{IsVictim, eviction_cmp}
 use Rattle.warm_rank.proofs.KeyLemmas.{keys_order_pages, known_keys_rank}
 use Rattle.warm_pool.specs.View.{FrameView, PoolView, frame_at, unfixed_page, unfixed_pages, view_of}
 use Rattle.warm_gossip.specs.State.{NodeState}
-use Rattle.warm_shards.specs.Shards.{AreShards, shard_at, shard_of, whole}
+use Rattle.warm_shards.specs.Shards.{AreShards, shard_at, whole}
+use Rattle.warm_visits.specs.ShardNumbers.{shard_of}
 use Rattle.warm_shards.proofs.WholeLemmas.{hist_whole}
 
 -- pages of one shard leave in the same order over what it holds and over what all hold

@@ -11,7 +11,7 @@ use Rattle.warm_shards.specs.Clauses.{TakesInAll, TakesInFirst}
 use Rattle.warm_shards.specs.Given.{Gives}
 use Rattle.warm_shards.specs.Shards.{whole}
 use Rattle.warm_shards.specs.VisitLaws.{EndsAlone, GivingIsOneNode}
-use Rattle.warm_shards.specs.Visits.{VisitState, answers_of, result_of}
+use Rattle.warm_visits.specs.Visits.{VisitState, answers_of, result_of}
 use Rattle.warm_shards.proofs.VisitSweeps.{alone_absorbs, alone_gives, alone_raises}
 
 ends_so : (well : VisitState → List NodeState → Type 0) (S : ReferenceSet) (old new : List NodeState)
@@ -29,7 +29,7 @@ pub giving_is_one_node : GivingIsOneNode
 giving_is_one_node = record {
   absorbs = λ batch old new w are gone over. ends_so _ (set_of_list batch) old new w (alone_absorbs old new w batch _ _ are refl gone over) (λ all. all);
   raises = λ time old new w are gone over.
-      let rose = alone_raises old new w _ _ time are refl gone over in
+      let rose = alone_raises old new _ w _ _ time are refl refl gone over in
       ((whole new).horizon, rose.well, rose.kept, rose.given.shards, (λ pool. (rose.given.given pool, refl)), rose.given.pools);
   entries = λ sender horizon es old new w are gone over.
       let gave = alone_gives old new w (refs_in (Entries sender horizon es)) _ _ are refl gone over in

@@ -7,7 +7,7 @@ use Rattle.warm_machine.specs.Runs.{Runs, operation}
 use Rattle.warm_gossip.specs.State.{NodeState}
 use Rattle.warm_shards.specs.Shards.{no_shard, shard_at}
 use Rattle.warm_shards.specs.VisitLaws.{EntersAlone, GoesAlone, alone}
-use Rattle.warm_shards.specs.Visits.{Enters, Errand, Said, VisitState, next_shard, shard_next}
+use Rattle.warm_visits.specs.Visits.{Enters, Errand, Said, VisitState, next_shard, shard_next}
 use Rattle.warm_shards.proofs.Calls.{read_at}
 
 -- the shard that a visit names is that of the errand that it runs

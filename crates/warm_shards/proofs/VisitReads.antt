@@ -1,6 +1,6 @@
 -- A visit that reads, and that nobody interrupts: what a node says to an errand that reads, and the
 -- shards that are read.
-use Rattle.std.proofs.Common.{◌≡◌, ◌⊎◌, inl, inr, ℕ, suc, ◌+◌, ◌-◌, ◌<◌, ◌≤◌, Bool, true, false, List, [], ◌∷◌, length, map, set, refl, sym, ap, subst, ◌∙◌, arith}
+use Rattle.std.proofs.Common.{◌≡◌, ◌⊎◌, inl, inr, ℕ, ◌+◌, ◌-◌, ◌<◌, ◌≤◌, Bool, true, false, List, [], ◌∷◌, length, map, set, refl, sym, ap, subst, ◌∙◌, arith}
 use Rattle.std.specs.Prelude.{◌↔◌, IsTrue, None, Option, Some}
 use Rattle.std.specs.List.{range_with_len}
 use Rattle.std.proofs.lemmas.Bool.{cases_eq}
@@ -13,14 +13,13 @@ use Rattle.warm_machine.specs.Runs.{Runs}
 use Rattle.warm_peer.specs.Since.{HasMoreSince, sent_since}
 use Rattle.warm_gossip.specs.State.{NodeState}
 use Rattle.warm_shards.specs.Clauses.{SameShards}
-use Rattle.warm_shards.specs.Given.{IsSame}
+use Rattle.warm_visits.specs.Given.{IsSame}
 use Rattle.warm_shards.specs.Shards.{shard_at}
-use Rattle.warm_shards.specs.VisitReads.{from_shard}
+use Rattle.warm_visits.specs.Plans.{from_shard}
 use Rattle.warm_shards.specs.VisitLaws.{Alone, EntersAlone}
-use Rattle.warm_shards.specs.Visits.{After, Ask, Enters, Errand, Made, NodeSays, Said, Takes, VisitState}
-use Rattle.warm_shards.specs.Visits.{at_each, at_shard, copied, copying, offered, offering, refused, shard_next}
-use Rattle.warm_shards.specs.Visits.{sending, sent}
+use Rattle.warm_visits.specs.Visits.{After, Ask, Enters, Errand, Made, NodeSays, Said, Takes, VisitState, at_each, at_shard, copied, copying, offered, offering, refused, shard_next, sending, sent}
 use Rattle.warm_shards.proofs.Calls.{same_one}
+use Rattle.warm_visits.proofs.ErrandLemmas.{errand_here, errand_none}
 
 -- ---- what a node says
 
@@ -76,17 +75,6 @@ visit_at id count plan made after stopped = record {
   after = after;
   stopped = stopped;
 }
-
-pub errand_here : (first count : ℕ) (ask : Ask) → first < count
-    → from_shard first count ask ≡ at_shard first ask ∷ from_shard (first + 1) count ask
-errand_here first count ask lt =
-    let more : count - first ≡ suc (count - (first + 1)) = omega (arith, lt) in
-    ap (λ n. map (λ i. at_shard i ask) (range_with_len first n)) more
-
-pub errand_none : (first count : ℕ) (ask : Ask) → count ≤ first → from_shard first count ask ≡ []
-errand_none first count ask le =
-    let none : count - first ≡ 0 = omega (arith, le) in
-    ap (λ n. map (λ i. at_shard i ask) (range_with_len first n)) none
 
 -- the errands of all shards are those from the first shard on
 pub from_first : (count : ℕ) (ask : Ask) → at_each count ask ≡ from_shard 0 count ask

@@ -7,12 +7,13 @@ use Rattle.warm_gossip.specs.State.{NodeState}
 use Rattle.warm_shards.specs.Clauses.{SameShards}
 use Rattle.warm_shards.specs.Shards.{shard_at, whole}
 use Rattle.warm_shards.specs.VisitLaws.{Alone, EntersAlone}
-use Rattle.warm_shards.specs.Visits.{Errand, Said, Takes, VisitState}
-use Rattle.warm_shards.specs.Visits.{copying, ends, joined, next_shard, onward}
+use Rattle.warm_visits.specs.Visits.{Errand, Said, Takes, VisitState}
+use Rattle.warm_visits.specs.Visits.{copying, ends, joined, next_shard, onward}
 use Rattle.warm_shards.proofs.Calls.{same_histories}
 use Rattle.warm_shards.proofs.WholeLemmas.{whole_more}
-use Rattle.warm_shards.specs.VisitReads.{from_shard}
-use Rattle.warm_shards.proofs.VisitReads.{EntersAt, all_there, copying_said, enters_at, errand_here, next_there, same_read, visit_at}
+use Rattle.warm_visits.specs.Plans.{from_shard}
+use Rattle.warm_shards.proofs.VisitReads.{EntersAt, all_there, copying_said, enters_at, next_there, same_read, visit_at}
+use Rattle.warm_visits.proofs.ErrandLemmas.{errand_here}
 
 -- the visit has the histories of the first k shards
 abbrev pub copies_visit : List NodeState → ℕ → Bool → VisitState

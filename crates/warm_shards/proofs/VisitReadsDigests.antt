@@ -11,9 +11,10 @@ use Rattle.warm_gossip.specs.State.{NodeState}
 use Rattle.warm_shards.specs.Clauses.{SameShards}
 use Rattle.warm_shards.specs.Shards.{AreShards, shard_at, whole}
 use Rattle.warm_shards.specs.VisitLaws.{Alone, EntersAlone}
-use Rattle.warm_shards.specs.Visits.{After, ComparesOffers, Errand, Said, VisitState, answered, answers_of, compares, ends, gathered, next_shard, offering, requests, send_plan}
-use Rattle.warm_shards.specs.VisitReads.{from_shard}
-use Rattle.warm_shards.proofs.VisitReads.{all_there, errand_here, errand_none, visit_at}
+use Rattle.warm_visits.specs.Visits.{After, ComparesOffers, Errand, Said, VisitState, answered, answers_of, compares, ends, gathered, next_shard, offering, requests, send_plan}
+use Rattle.warm_visits.specs.Plans.{from_shard}
+use Rattle.warm_shards.proofs.VisitReads.{all_there, visit_at}
+use Rattle.warm_visits.proofs.ErrandLemmas.{errand_here, errand_none}
 use Rattle.warm_shards.proofs.VisitReadsOffers.{HasOffered, Offered, Offers, all_offered, goes_next, not_compared, offers_one}
 use Rattle.warm_shards.proofs.VisitReadsSends.{Sends, all_sent, sends_first, sends_on}
 

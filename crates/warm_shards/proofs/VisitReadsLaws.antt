@@ -11,16 +11,17 @@ use Rattle.warm_gossip.specs.State.{NodeState}
 use Rattle.warm_gossip.specs.declared.call.Call.TheVariants.{Offer, Receive}
 use Rattle.warm_gossip.specs.declared.call.Reply.TheVariants.{Answers, Sent}
 use Rattle.warm_shards.specs.Clauses.{SameShards, TakesInFirst, Together}
-use Rattle.warm_shards.specs.Given.{AreGiven, at_horizon}
+use Rattle.warm_shards.specs.Given.{AreGiven}
+use Rattle.warm_visits.specs.Given.{at_horizon}
 use Rattle.warm_shards.specs.Shards.{AreShards, held, shard_at, whole}
 use Rattle.warm_shards.specs.VisitLaws.{Alone, EndsAlone, EntersAlone, ReadingIsOneNode, ReceivesAlone, Whenever, alone}
-use Rattle.warm_shards.specs.Visits.{After, Errand, Made, Said, VisitState, answered, answers_of, at_each, compares, copy_of, copy_visit, copying, ends, gathered, joined, next_shard, nothing_offered, offer_in, offer_visit, offering, send_plan}
+use Rattle.warm_visits.specs.Visits.{After, Errand, Made, Said, VisitState, answered, answers_of, at_each, compares, copy_of, copy_visit, copying, ends, gathered, joined, next_shard, nothing_offered, offer_in, offer_visit, offering, send_plan}
 use Rattle.warm_shards.proofs.AnswerLemmas.{offered}
 use Rattle.warm_shards.proofs.AreShardsLemmas.{some_shards}
 use Rattle.warm_shards.proofs.Calls.{keep_then, same_ids, same_keeps, same_none, same_shards, same_whole}
 use Rattle.warm_shards.proofs.GivenLemmas.{given_id, raised_alone}
 use Rattle.warm_shards.proofs.Receiving.{digests_received, request_received}
-use Rattle.warm_shards.specs.VisitReads.{from_shard}
+use Rattle.warm_visits.specs.Plans.{from_shard}
 use Rattle.warm_shards.proofs.VisitReads.{all_keep, all_there, from_first, visit_at}
 use Rattle.warm_shards.proofs.VisitReadsCopies.{Copies, all_copied, copies_on}
 use Rattle.warm_shards.proofs.VisitReadsDigests.{Comparing, answer_made, compares_on, same_compared}

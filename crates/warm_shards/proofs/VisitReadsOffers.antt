@@ -8,19 +8,20 @@ use Rattle.warm_digest.specs.BucketDigests.{digests_of}
 use Rattle.warm_frames.specs.declared.layout.TheConstants.{DIGEST_SIZE}
 use Rattle.warm_gossip.specs.State.{NodeState}
 use Rattle.warm_shards.specs.Clauses.{SameShards}
-use Rattle.warm_shards.specs.Digests.{FillsShard}
+use Rattle.warm_visits.specs.Digests.{FillsShard}
 use Rattle.warm_shards.specs.Shards.{AreShards, no_shard, shard_at, whole}
 use Rattle.warm_shards.specs.VisitLaws.{Alone, EntersAlone}
-use Rattle.warm_shards.specs.Visits.{After, ComparesOffers, Errand, GathersOffer, Made, Said, Takes, VisitState}
-use Rattle.warm_shards.specs.Visits.{ends, gathered, nothing_offered, offered}
-use Rattle.warm_shards.specs.Visits.{offering}
+use Rattle.warm_visits.specs.Visits.{After, ComparesOffers, Errand, GathersOffer, Made, Said, Takes, VisitState}
+use Rattle.warm_visits.specs.Visits.{ends, gathered, nothing_offered, offered}
+use Rattle.warm_visits.specs.Visits.{offering}
 use Rattle.warm_shards.proofs.AnswerLemmas.{digests_next}
 use Rattle.warm_shards.proofs.AreShardsLemmas.{some_shards}
 use Rattle.warm_shards.proofs.Buckets.{shard_horizon}
 use Rattle.warm_shards.proofs.Calls.{same_histories}
 use Rattle.warm_shards.proofs.DigestLemmas.{AreGathered, all_gathered}
-use Rattle.warm_shards.specs.VisitReads.{from_shard}
-use Rattle.warm_shards.proofs.VisitReads.{EntersAt, enters_at, errand_here, next_there, offering_said, same_read, visit_at}
+use Rattle.warm_visits.specs.Plans.{from_shard}
+use Rattle.warm_shards.proofs.VisitReads.{EntersAt, enters_at, next_there, offering_said, same_read, visit_at}
+use Rattle.warm_visits.proofs.ErrandLemmas.{errand_here}
 
 -- what the first k shards offer: the digests of their buckets, at the horizon of all
 pub record Offered (old : List NodeState) (k latest : ℕ) (table : List (List ℕ)) : Type 0 where

@@ -16,14 +16,14 @@ use Rattle.warm_gossip.specs.State.{NodeState}
 use Rattle.warm_shards.specs.Clauses.{SameShards}
 use Rattle.warm_shards.specs.Shards.{AreShards, held, shard_at, whole}
 use Rattle.warm_shards.specs.VisitLaws.{Alone, EntersAlone}
-use Rattle.warm_shards.specs.Visits.{After, Ask, Enters, Errand, NodeSays, Said, Takes, VisitState}
-use Rattle.warm_shards.specs.Visits.{answered, at_shard, goes_on, onward}
-use Rattle.warm_shards.specs.Visits.{answers_of, next_shard, send_plan, sending, with_message}
+use Rattle.warm_visits.specs.Visits.{After, Ask, Enters, Errand, NodeSays, Said, Takes, VisitState}
+use Rattle.warm_visits.specs.Visits.{answered, at_shard, goes_on, onward}
+use Rattle.warm_visits.specs.Visits.{answers_of, next_shard, send_plan, sending, with_message}
 use Rattle.warm_shards.proofs.AnswerLemmas.{more_same, not_later, sent_since_same}
 use Rattle.warm_shards.proofs.AreShardsLemmas.{some_shards}
 use Rattle.warm_shards.proofs.Calls.{same_histories, same_ids}
 use Rattle.warm_shards.proofs.VisitReads.{no_errand, same_read, sending_said, visit_at}
-use Rattle.warm_shards.proofs.VisitReadsPortions.{left_behind, left_of_bucket, messages_first, messages_left, portion_is, then_more, with_last, with_more}
+use Rattle.warm_visits.proofs.VisitReadsPortions.{left_behind, left_of_bucket, messages_first, messages_left, portion_is, then_more, with_last, with_more}
 
 -- the messages that errands still bring of a history
 abbrev pub brought : ℕ → HistoryView → Ask → List Message

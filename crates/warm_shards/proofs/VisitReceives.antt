@@ -1,7 +1,6 @@
 -- Digests and requests that shards receive by a visit.
 use Rattle.std.proofs.Common.{◌≡◌, inl, ℕ, ◌<◌, ◌≤◌, Bool, true, false, List, [], length, Result, Ok, Err, refl, sym, ap, subst, ◌∙◌, arith}
-use Rattle.std.specs.Prelude.{IfErr, IfOk, None, Some, nat_lt}
-use Rattle.std.proofs.lemmas.Bool.{ltb-false, ltb-true}
+use Rattle.std.specs.Prelude.{IfErr, IfOk, None, Some}
 use Rattle.warm_history.specs.Entry.{Entry}
 use Rattle.warm_history.specs.ReferenceSets.{set_of_list, ◌∪◌}
 use Rattle.warm_history.specs.Histories.{StandsFor, history, references_of}
@@ -17,13 +16,15 @@ use Rattle.warm_gossip.specs.declared.call.Reply.TheVariants.{Answers, Refused, 
 use Rattle.warm_gossip.specs.State.{NodeState, NodeView, empty_node, node_view}
 use Rattle.warm_peer.specs.Answers.{IsAnswer, refs_in}
 use Rattle.warm_shards.specs.Clauses.{KeepPools, SameShards, TakesInFirst, Together}
-use Rattle.warm_shards.specs.Given.{AreGiven, Gives, OffersAll, ReceivesAll, at_horizon}
-use Rattle.warm_shards.specs.Shards.{AreShards, held, of_first_shards, of_shard, shard_at, whole}
+use Rattle.warm_shards.specs.Given.{AreGiven, Gives, OffersTogether, ReceivesAll}
+use Rattle.warm_visits.specs.Given.{at_horizon}
+use Rattle.warm_shards.specs.Shards.{AreShards, held, shard_at, whole}
+use Rattle.warm_visits.specs.ShardNumbers.{of_first_shards, of_shard}
 use Rattle.warm_shards.specs.VisitLaws.{EndsAlone, GoesAlone, ReceivesAlone}
-use Rattle.warm_shards.specs.Visits.{HasEntries, VisitState, answers_of, next_shard, offer_in, offer_visit, receive_visit, result_of}
+use Rattle.warm_visits.specs.Visits.{HasEntries, VisitState, answers_of, next_shard, offer_in, offer_visit, receive_visit, result_of}
 use Rattle.warm_shards.proofs.AreShardsLemmas.{some_shards}
 use Rattle.warm_shards.proofs.Calls.{same_keeps, same_none}
-use Rattle.warm_shards.proofs.GivenLemmas.{beyond}
+use Rattle.warm_shards.proofs.GivenLemmas.{everywhere}
 use Rattle.warm_shards.proofs.StandsForLemmas.{shard_stands}
 use Rattle.warm_shards.proofs.VisitLawsHold.{giving_is_one_node}
 use Rattle.warm_shards.proofs.VisitReadsLaws.{reading_is_one_node}
@@ -161,14 +162,12 @@ pub same_of_whole : (old new : List NodeState) → AreShards old → AreShards n
     → SameShards old new
 same_of_whole old new are now id is keep = record {
   count = keep.count;
-  views = λ i. cases i (nat_lt i (length old)) refl;
+  views = everywhere (λ n m. node_view m ≡ node_view n) refl old new keep.count each;
   bytes = keep.bytes;
 }
   where
-    cases : (i : ℕ) (b : Bool) → nat_lt i (length old) ≡ b
-        → node_view (shard_at new i) ≡ node_view (shard_at old i)
-    cases i true less =
-        let lt : i < length old = ltb-true i (length old) less in
+    each : (i : ℕ) → i < length old → node_view (shard_at new i) ≡ node_view (shard_at old i)
+    each i lt =
         let lt2 : i < length new = omega (arith, lt, keep.count) in
         let ids : (shard_at new i).id ≡ (shard_at old i).id = (now.each i lt2).id ∙ id ∙ sym (are.each i lt).id in
         let was = shard_stands (references_of (whole old)) old i are lt (own_whole old) in
@@ -176,9 +175,6 @@ same_of_whole old new are now id is keep = record {
         let histories : (shard_at new i).history ≡ (shard_at old i).history = has ∙ ap (λ n. history (of_shard n i (references_of (whole old)))) keep.count ∙ sym was in
         let pools = keep.views i in
         λ j. record { id = ids j; history = histories j; pool = pools j }
-    cases i false over =
-        let past : length old ≤ i = ltb-false i (length old) over in
-        ap node_view (beyond new i (omega (arith, past, keep.count)) ∙ sym (beyond old i past))
 
 -- a horizon that is not later changes nothing
 pub same_not_later : (message : Message) (old new : List NodeState)
@@ -214,15 +210,15 @@ only_memory message old new (Err why) got = got.refused.0
 abbrev Offers : List NodeState → VisitState → List NodeState → Type 0
 Offers old w new = EndsAlone (λ w new. (offer : Message) × (offer_in w.id w.made ≡ Some offer) × Together old Offer (Sent offer) new) (set_of_list []) old w new
 
-pub offers_so : (old new : List NodeState) (v w : VisitState) → AreShards old
-    → v ≡ offer_visit (shard_at old 0).id (length old) → GoesAlone v old w new
+pub offers_so : (old new : List NodeState) (v w : VisitState) (id count : ℕ) → AreShards old
+    → v ≡ offer_visit id count → id ≡ (shard_at old 0).id → count ≡ length old → GoesAlone v old w new
     → next_shard w ≡ None → Offers old w new
-offers_so old new v w are is gone over =
-    reading_is_one_node.offers old new w are (subst (λ (x : VisitState). GoesAlone x old w new) is gone) over
+offers_so old new v w id count are is same long gone over =
+    reading_is_one_node.offers old new w are (subst (λ (x : VisitState). GoesAlone x old w new) (is ∙ (λ i. offer_visit (same i) (long i))) gone) over
 
 -- what a visit with no errand left has offered
 pub offers_all : (old new : List NodeState) (w : VisitState) (offer : Message) → Offers old w new
-    → w.stopped ≡ false → Some offer ≡ offer_in w.id w.made → OffersAll old (Ok offer) new
+    → w.stopped ≡ false → Some offer ≡ offer_in w.id w.made → OffersTogether old (Ok offer) new
 offers_all old new w offer ends well is =
     let done = ends.done well in
     let both : Some offer ≡ Some done.0 = is ∙ done.1 in
@@ -242,7 +238,7 @@ offers_some old new w ends well is =
 
 -- a shard had no memory
 pub offers_refused : (old new : List NodeState) (w : VisitState) (why : NodeFault) → Offers old w new
-    → w.stopped ≡ true → why ≡ Memory → OffersAll old (Err why) new
+    → w.stopped ≡ true → why ≡ Memory → OffersTogether old (Err why) new
 offers_refused old new w why ends stopped memory =
     let first = ends.stopped stopped in
     let known : whole new ≡ whole old = first.3 ∙ raised_to_no_later (whole old) 0 (IsHistory-history (held old)) (omega arith) in
@@ -254,7 +250,7 @@ offers_refused old new w why ends stopped memory =
 
 -- there was no memory for the visit, and nothing has changed
 pub offers_none : (ns : List NodeState) (why : NodeFault) → AreShards ns → why ≡ Memory
-    → OffersAll ns (Err why) ns
+    → OffersTogether ns (Err why) ns
 offers_none ns why are memory = record {
   shards = are;
   step = subst (λ (f : NodeFault). Together ns Offer (Refused f) ns) (sym memory) (λ pool. refl);

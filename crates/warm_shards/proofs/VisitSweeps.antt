@@ -1,8 +1,7 @@
 -- A visit that nobody interrupts: all shards are raised, and then each is given its part.
-use Rattle.std.proofs.Common.{◌≡◌, ◌≢◌, ◌⊎◌, inl, inr, ℕ, zero, suc, ◌+◌, ◌-◌, ◌<◌, Bool, true, false, List, [], ◌∷◌, ◌++◌, length, max, min, set, refl, sym, ap, subst, ◌∙◌, arith}
+use Rattle.std.proofs.Common.{◌≡◌, ◌≢◌, ◌⊎◌, inl, inr, ℕ, zero, suc, ◌+◌, ◌<◌, Bool, true, false, List, [], ◌∷◌, ◌++◌, length, max, min, set, refl, sym, ap, subst, ◌∙◌, arith}
 use Rattle.std.specs.Prelude.{None, Some}
 use Rattle.std.proofs.lemmas.List.{append-nil, get_or-set_same}
-use Rattle.std.specs.List.{flat_map, range_with_len}
 use Rattle.warm_stamps.specs.declared.Reference.{Reference}
 use Rattle.warm_history.specs.ReferenceSets.{ReferenceSet, set_of_list, ◌∪◌}
 use Rattle.warm_history.specs.Histories.{HistoryView, references_of}
@@ -11,15 +10,18 @@ use Rattle.warm_machine.specs.declared.operation.Operation.{Operation}
 use Rattle.warm_machine.specs.Runs.{Runs}
 use Rattle.warm_gossip.specs.declared.fault.NodeFault.TheVariants.{Memory}
 use Rattle.warm_gossip.specs.State.{NodeState, NodeView}
-use Rattle.warm_shards.specs.Given.{AreGiven, Gives, IsGiven, IsSame, at_horizon}
-use Rattle.warm_shards.specs.Shards.{AreShards, no_shard, of_shard, shard_at, whole}
+use Rattle.warm_shards.specs.Given.{AreGiven, Gives}
+use Rattle.warm_visits.specs.Given.{IsGiven, IsSame, at_horizon}
+use Rattle.warm_shards.specs.Shards.{AreShards, no_shard, shard_at, whole}
+use Rattle.warm_visits.specs.ShardNumbers.{of_shard}
 use Rattle.warm_shards.specs.VisitLaws.{Alone, EntersAlone, GoesAlone, alone}
-use Rattle.warm_shards.specs.VisitParts.{give_from, raise_from}
-use Rattle.warm_shards.specs.Visits.{After, Errand, Made, NodeSays, Said, Takes, VisitState, absorb_visit, at_shard, begun, copied, ends, give_part, give_plan, give_visit, given, giving, keeps, kept_of, next_shard, nothing, offered, onward, raise_plan, raise_visit, raised, refused, result_of, sent, shard_next}
+use Rattle.warm_visits.specs.Plans.{give_from, raise_from}
+use Rattle.warm_visits.specs.Visits.{After, Errand, Made, NodeSays, Said, Takes, VisitState, absorb_visit, at_shard, begun, copied, ends, give_plan, give_visit, given, giving, keeps, kept_of, next_shard, nothing, offered, onward, raise_plan, raise_visit, raised, refused, result_of, sent, shard_next}
 use Rattle.warm_shards.proofs.AreShardsLemmas.{some_shards}
 use Rattle.warm_shards.proofs.Buckets.{shard_horizon}
 use Rattle.warm_shards.proofs.GivenLemmas.{GivenFirst, IsNoLater, given_all, given_more, given_past, given_stays, gives_all, gives_first, none_given, raised_gives, raised_late, whole_given}
-use Rattle.warm_shards.proofs.VisitPlans.{give_end, give_here, give_past as plan_past, raise_begun, raise_end, raise_here}
+use Rattle.warm_visits.proofs.VisitPlans.{give_end, give_here, give_past as plan_past, raise_begun, raise_end, raise_here}
+use Rattle.warm_visits.proofs.PlanGiven.{empty_or_not, give_all}
 
 -- ---- one entry
 
@@ -174,10 +176,6 @@ pub record Gave (S : ReferenceSet) (old : List NodeState) (made : Made) (after :
   pub makes : t.visit.made ≡ made
   pub ends : t.visit.after ≡ after
 
-pub empty_or_not : {A : Type 0} (xs : List A) → (xs ≡ []) ⊎ (xs ≢ [])
-empty_or_not [] = inl refl
-empty_or_not (x ∷ xs) = inr (λ none. absurd (cc))
-
 abbrev parts_of : List NodeState → ReferenceSet → ℕ → ReferenceSet
 parts_of old S i = of_shard (length old) i S
 
@@ -243,14 +241,6 @@ gives_on (suc n) k id old S made after s t es is are le quiet have at runs over 
       | inr some ↦ gives_next k id old S made after s t es (omega (arith, is)) are le quiet have at some (λ y es more now runs. gives_on n (k + 1) id old S made after y t es (omega (arith, is)) are le quiet more now runs over) runs over
     ]
 
--- ---- whole visits
-
-pub give_all : (count : ℕ) (S : ReferenceSet)
-    → give_plan count S ≡ give_from count (λ i. of_shard count i S) 0
-give_all count S =
-    let none : count ≡ count - 0 = omega arith in
-    ap (λ n. flat_map (λ i. give_part i (of_shard count i S)) (range_with_len 0 n)) none
-
 -- a visit that gives parts to shards that have the horizon
 pub alone_parts : (old new : List NodeState) (w : VisitState) (S : ReferenceSet) (made : Made)
     (after : After) (id : ℕ) (es : List (Operation Errand Said)) → AreShards old → IsNoLater S old
@@ -303,11 +293,11 @@ latest_is old new time are rose =
     let is : (whole new).horizon ≡ max (whole old).horizon time = ap (λ (h : HistoryView). h.horizon) (whole_given (at_horizon time) old new rose) ∙ horizon-history (references_of (whole old) ∪ at_horizon time) in
     ap (λ h. max h time) was ∙ sym is
 
-pub alone_raises : (old new : List NodeState) (w : VisitState) (id count time : ℕ) → AreShards old
-    → count ≡ length old → GoesAlone (raise_visit id count time) old w new → next_shard w ≡ None
+pub alone_raises : (old new : List NodeState) (v w : VisitState) (id count time : ℕ) → AreShards old
+    → v ≡ raise_visit id count time → count ≡ length old → GoesAlone v old w new → next_shard w ≡ None
     → Rose old time w new
-alone_raises old new w id count time are is gone over =
-    let all = subst (λ n. GoesAlone (raise_visit id n time) old w new) is gone in
+alone_raises old new v w id count time are visit is gone over =
+    let all = subst (λ (x : VisitState). GoesAlone x old w new) (visit ∙ ap (λ n. raise_visit id n time) is) gone in
     let begins : alone (raise_visit id (length old) time) old ≡ alone (begun id (length old) (raise_plan (length old) time ++ []) (raised None) ends) old = ap (λ es. alone (begun id (length old) es (raised None) ends) old) (sym (append-nil (raise_plan (length old) time))) in
     let risen = raises_first id old time [] (risen_made (latest old time)) ends (alone w new) all.0 are (risen_keeps (latest old time)) (subst (λ s. Runs EntersAlone s all.0 (alone w new)) begins all.1) over in
     let same = over_empty risen.mid (alone w new) risen.entries (ap (λ (v : VisitState). v.plan) risen.visit) risen.runs in

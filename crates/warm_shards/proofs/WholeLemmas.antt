@@ -18,7 +18,8 @@ use Rattle.warm_history.specs.Histories.{hist, references_of, history, history_o
 use Rattle.warm_history.proofs.KeptLemmas.{kept-append}
 use Rattle.warm_history.proofs.HistoryLemmas.{hist_refs-history}
 use Rattle.warm_gossip.specs.State.{NodeState}
-use Rattle.warm_shards.specs.Shards.{AreShards, held, shard_at, shard_of, whole}
+use Rattle.warm_shards.specs.Shards.{AreShards, held, shard_at, whole}
+use Rattle.warm_visits.specs.ShardNumbers.{shard_of}
 use Rattle.warm_history.proofs.JoinLemmas.{both_assoc, history_first, history_second, history_swap}
 
 -- the references to a page that are kept

@@ -1,13 +1,10 @@
 -- If each shard has had its part, all together have had the whole.
-use Rattle.std.proofs.Common.{◌≡◌, inl, inr, ℕ, zero, suc, ◌+◌, ◌<◌, ◌≤◌, Bool, true, false, cond, List, [], ◌∷◌, ◌++◌, map, filter, length, set, take, max, nat_eq, refl, sym, ap, subst, ◌∙◌, arith, add-one, take_all}
+use Rattle.std.proofs.Common.{◌≡◌, inl, inr, ℕ, zero, suc, ◌+◌, ◌<◌, ◌≤◌, List, [], ◌++◌, length, set, take, max, refl, sym, ap, subst, ◌∙◌, arith, add-one, take_all}
 use Rattle.std.proofs.lemmas.Bool.{cases_eq}
 use Rattle.std.proofs.lemmas.List.{append-nil, ext_get_or, get_or-set_other, get_or-set_same, length-set}
-use Rattle.std.proofs.lemmas.List.Elements.{filter-append}
 use Rattle.warm_stamps.specs.declared.TheConstants.{BUCKETS}
-use Rattle.warm_stamps.specs.declared.Stamp.{Stamp}
-use Rattle.warm_stamps.specs.declared.Reference.{Reference}
 use Rattle.warm_history.specs.Entry.{Entry}
-use Rattle.warm_history.specs.ListHistories.{hist_stamps, list_references_of, references_of_entry}
+use Rattle.warm_history.specs.ListHistories.{list_references_of}
 use Rattle.warm_history.specs.ReferenceSets.{ReferenceSet, set_of_list, ◌∪◌}
 use Rattle.warm_history.specs.Histories.{HistoryView, entries_of, history, join, references_of}
 use Rattle.warm_history.proofs.JoinLemmas.{history_first}
@@ -16,14 +13,18 @@ use Rattle.warm_frames.specs.declared.message.Message.TheVariants.{Digest, Entri
 use Rattle.warm_digest.specs.BucketDigests.{digests_of}
 use Rattle.warm_peer.specs.Answers.{refs_in}
 use Rattle.warm_gossip.specs.State.{NodeState, NodeView}
-use Rattle.warm_shards.specs.Digests.{FillsShard}
-use Rattle.warm_shards.specs.Shards.{AreShards, IsShardCount, no_shard, of_first_shards, of_shard, shard_at, shard_of, whole}
-use Rattle.warm_shards.proofs.AreShardsLemmas.{some_count, some_shards}
+use Rattle.warm_visits.specs.Digests.{FillsShard}
+use Rattle.warm_shards.specs.Shards.{AreShards, no_shard, shard_at, whole}
+use Rattle.warm_visits.specs.ShardNumbers.{IsShardCount, of_first_shards, of_shard}
+use Rattle.warm_shards.proofs.AreShardsLemmas.{some_shards}
+use Rattle.warm_visits.proofs.ErrandLemmas.{some_count}
 use Rattle.warm_shards.proofs.DigestLemmas.{AreGathered, all_gathered, digest_whole, gathered_more}
-use Rattle.warm_shards.proofs.PartLemmas.{all_parts, next_part, no_part}
+use Rattle.warm_visits.proofs.PartLemmas.{all_parts, next_part, no_part}
 use Rattle.warm_shards.proofs.WholeLemmas.{none_joined, one_takes, whole_more}
 use Rattle.warm_shards.specs.PartLaws.{BatchIsOfParts, DigestsAreGathered, GatheredIsWhole, HistoryIsOfParts, MessageIsOfParts, OneTakesIn}
-use Rattle.warm_shards.specs.Parts.{part_of_entries, part_of_message}
+use Rattle.warm_shards.specs.Parts.{part_of_message}
+use Rattle.warm_visits.specs.Parts.{part_of_entries}
+use Rattle.warm_visits.proofs.PartEntryLemmas.{parts_hold}
 
 pub one_takes_in : OneTakesIn
 one_takes_in shards i S n lt is = one_takes shards i S n lt is
@@ -112,40 +113,6 @@ parts_taken S old new valid long each =
     ap whole (sym (mixed_all old new long))
     ∙ taken_by_all S old new each count refl some
     ∙ all_parts count (references_of (whole old)) S (λ r. omega (arith, some))
-
--- ---- the references that parts hold
-
-all_alike : (test : Reference → Bool) (f : Stamp → Reference) (b : Bool)
-    → ((s : Stamp) → test (f s) ≡ b) → (ss : List Stamp)
-    → filter test (map f ss) ≡ cond b (map f ss) []
-all_alike test f true same [] = refl
-all_alike test f true same (s ∷ ss) = rw (same s) (ap (λ rs. f s ∷ rs) (all_alike test f true same ss))
-all_alike test f false same [] = refl
-all_alike test f false same (s ∷ ss) = rw (same s) (all_alike test f false same ss)
-
-pub parts_hold : (count i : ℕ) (es : List Entry)
-    → list_references_of (part_of_entries count i es)
-    ≡ filter (λ r. nat_eq (shard_of count r.page) i) (list_references_of es)
-parts_hold count i [] = refl
-parts_hold count i (e ∷ es) = cases (nat_eq (shard_of count e.page) i) refl (parts_hold count i es)
-  where
-    test : Reference → Bool
-    test r = nat_eq (shard_of count r.page) i
-
-    rest : List Reference
-    rest = list_references_of es
-
-    own : (b : Bool) → nat_eq (shard_of count e.page) i ≡ b
-        → cond b (references_of_entry e) [] ++ filter test rest ≡ filter test (references_of_entry e ++ rest)
-    own b is =
-        ap (λ rs. rs ++ filter test rest) (sym (all_alike test (λ s. record { page = e.page; stamp = s }) b (λ s. is) (hist_stamps e.hist)))
-        ∙ sym (filter-append test (references_of_entry e) rest)
-
-    cases : (b : Bool) → nat_eq (shard_of count e.page) i ≡ b
-        → list_references_of (part_of_entries count i es) ≡ filter test rest
-        → list_references_of (part_of_entries count i (e ∷ es)) ≡ filter test (references_of_entry e ++ rest)
-    cases true is later = rw is (ap (λ rs. references_of_entry e ++ rs) later ∙ own true is)
-    cases false is later = rw is (later ∙ own false is)
 
 pub part_is : (count i horizon : ℕ) (es : List Entry)
     → record { horizon = horizon; given = list_references_of (part_of_entries count i es) }

@@ -11,7 +11,8 @@ use Rattle.warm_gossip.specs.declared.fault.NodeFault.{NodeFault}
 use Rattle.warm_gossip.specs.Clauses.{SameView}
 use Rattle.warm_gossip.specs.State.{NodeState}
 use Rattle.warm_gossip.specs.Step.{Step}
-use Rattle.warm_shards.specs.Shards.{as_node, of_first_shards, of_shard, shard_at, whole}
+use Rattle.warm_shards.specs.Shards.{as_node, shard_at, whole}
+use Rattle.warm_visits.specs.ShardNumbers.{of_first_shards, of_shard}
 
 -- Calls of the whole
 

@@ -3,7 +3,8 @@ use Rattle.std.specs.Prelude.{◌≢◌, ℕ, ◌%◌, List, length}
 use Rattle.warm_gossip.specs.State.{NodeState}
 use Rattle.warm_shards.specs.declared.fault.ShardsFault.{ShardsFault}
 use Rattle.warm_shards.specs.declared.fault.ShardsFault.TheVariants.{BadCount, NotOpened, Uneven}
-use Rattle.warm_shards.specs.Shards.{AreOpened, IsShardCount}
+use Rattle.warm_shards.specs.Shards.{AreOpened}
+use Rattle.warm_visits.specs.ShardNumbers.{IsShardCount}
 
 -- why fresh nodes are no shards of the replica of this number
 abbrev pub IsOpeningRefused : ℕ → List NodeState → ShardsFault → Type 0

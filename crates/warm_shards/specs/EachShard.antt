@@ -18,7 +18,7 @@ use Rattle.warm_gossip.specs.Clauses.{Goes, OfPool, SameView}
 use Rattle.warm_gossip.specs.Engine.{KeepsKnown}
 use Rattle.warm_gossip.specs.State.{NodeState, node_view}
 use Rattle.warm_gossip.specs.Step.{IsFailed, OnPool}
-use Rattle.warm_shards.specs.Given.{IsGiven, at_horizon}
+use Rattle.warm_visits.specs.Given.{IsGiven, at_horizon}
 use Rattle.warm_shards.specs.Shards.{shard_at, whole}
 
 -- each shard has changed as `change` says

@@ -17,8 +17,10 @@ use Rattle.warm_gossip.specs.Given.{given_by_call}
 use Rattle.warm_gossip.specs.State.{NodeState, NodeView, node_view}
 use Rattle.warm_gossip.specs.Step.{IsFailed, OnPool, Step}
 use Rattle.warm_gossip.specs.Victims.{IsEvicted}
-use Rattle.warm_shards.specs.Shards.{AreShards, HoldsPagesOf, of_first_shards, of_shard, shard_at}
-use Rattle.warm_shards.specs.Shards.{shard_of, whole}
+use Rattle.warm_shards.specs.Shards.{AreShards, HoldsPagesOf, shard_at}
+use Rattle.warm_visits.specs.ShardNumbers.{of_first_shards, of_shard}
+use Rattle.warm_shards.specs.Shards.{whole}
+use Rattle.warm_visits.specs.ShardNumbers.{shard_of}
 use Rattle.warm_shards.specs.Clauses.{HasPart, TakesInFirst, Together}
 
 -- The headline: whatever all shards together stand for, they then stand for that with what the call

@@ -1,7 +1,6 @@
 pub mod Shards
 pub mod Clauses
 pub mod Given
-pub mod Digests
 pub mod Dividing
 pub mod Lending
 pub mod Parts
@@ -9,8 +8,4 @@ pub mod EachShard
 pub mod ShardsOfNodes
 pub mod Laws
 pub mod PartLaws
-pub mod Visits
 pub mod VisitLaws
-pub mod VisitReads
-pub mod VisitParts
-pub mod VisitMessages

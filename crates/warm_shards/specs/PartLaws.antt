@@ -13,9 +13,11 @@ use Rattle.warm_gossip.specs.declared.call.Reply.TheVariants.{Answers, Done}
 use Rattle.warm_peer.specs.Answers.{history_after}
 use Rattle.warm_gossip.specs.Clauses.{Goes, Joins}
 use Rattle.warm_gossip.specs.State.{NodeState}
-use Rattle.warm_shards.specs.Digests.{FillsShard}
-use Rattle.warm_shards.specs.Parts.{part_of_batch, part_of_history, part_of_message}
-use Rattle.warm_shards.specs.Shards.{AreShards, IsShardCount, shard_at, whole}
+use Rattle.warm_visits.specs.Digests.{FillsShard}
+use Rattle.warm_shards.specs.Parts.{part_of_history, part_of_message}
+use Rattle.warm_visits.specs.Parts.{part_of_batch}
+use Rattle.warm_shards.specs.Shards.{AreShards, shard_at, whole}
+use Rattle.warm_visits.specs.ShardNumbers.{IsShardCount}
 
 -- if one shard has taken references in, all together have, whatever the others hold
 abbrev pub OneTakesIn : Type 0

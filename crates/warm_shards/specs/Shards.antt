@@ -1,26 +1,15 @@
 -- Shards: the nodes of one replica, each with the pages of its buckets. Together they are one node.
-use Rattle.std.specs.Prelude.{◌≡◌, ℕ, ◌%◌, ◌<◌, ◌≤◌, IsTrue, List, [], ◌∷◌, length, Some}
-use Rattle.std.specs.Prelude.{nat_eq, nat_lt, slice_index_or}
-use Rattle.std.specs.Int.{is_power_of_two}
+use Rattle.std.specs.Prelude.{◌≡◌, ℕ, ◌<◌, List, [], ◌∷◌, length, Some}
+use Rattle.std.specs.Prelude.{slice_index_or}
 use Rattle.std.specs.List.{All, AllByRecursion}
 use Rattle.warm_stamps.specs.declared.PageId.{PageId}
-use Rattle.warm_stamps.specs.declared.TheConstants.{BUCKETS}
-use Rattle.warm_stamps.specs.Buckets.{page_bucket}
-use Rattle.warm_history.specs.ReferenceSets.{ReferenceSet, set_of_list, filter_references, ◌∪◌}
-use Rattle.warm_history.specs.Histories.{HistoryView, IsHistory, entries_of, history}
-use Rattle.warm_history.specs.Histories.{references_of}
+use Rattle.warm_history.specs.ReferenceSets.{ReferenceSet, set_of_list, ◌∪◌}
+use Rattle.warm_history.specs.Histories.{HistoryView, IsHistory, entries_of, history, references_of}
 use Rattle.warm_pool.specs.Residents.{resident_pages}
 use Rattle.warm_pool.specs.State.{fresh_pool}
 use Rattle.warm_pool.specs.View.{PoolView, frame_at, view_of}
 use Rattle.warm_gossip.specs.State.{NodeState, NodeView, node_view, opened_node}
-
--- a valid number of shards: a power of two, up to the number of buckets
-abbrev pub IsShardCount : ℕ → Type 0
-IsShardCount count = IsTrue (is_power_of_two count) × (count ≤ BUCKETS)
-
--- the shard of a page: its bucket, modulo the number of shards
-abbrev pub shard_of : ℕ → PageId → ℕ
-shard_of count p = page_bucket p % count
+use Rattle.warm_visits.specs.ShardNumbers.{IsShardCount, shard_of}
 
 -- a node without a frame: no slot of it holds a page
 abbrev pub no_shard : NodeState
@@ -45,14 +34,6 @@ whole shards = history (held shards)
 abbrev pub as_node : List NodeState → PoolView → NodeView
 as_node shards pool =
     record { id = (shard_at shards 0).id; history = whole shards; pool = pool }
-
--- the references to pages of one shard
-abbrev pub of_shard : ℕ → ℕ → ReferenceSet → ReferenceSet
-of_shard count i S = filter_references (λ r. nat_eq (shard_of count r.page) i) S
-
--- the references to pages of the first k shards
-abbrev pub of_first_shards : ℕ → ℕ → ReferenceSet → ReferenceSet
-of_first_shards count k S = filter_references (λ r. nat_lt (shard_of count r.page) k) S
 
 -- The invariant
 

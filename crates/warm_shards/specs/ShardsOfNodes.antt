@@ -5,7 +5,8 @@ use Rattle.warm_pool.specs.View.{PoolView, IsResident}
 use Rattle.warm_gossip.specs.State.{NodeState}
 use Rattle.warm_shards.specs.declared.fault.ShardsFault.{ShardsFault}
 use Rattle.warm_shards.specs.declared.fault.ShardsFault.TheVariants.{BadCount, NotShards}
-use Rattle.warm_shards.specs.Shards.{HoldsShard, IsShardCount, shard_at, shard_of}
+use Rattle.warm_shards.specs.Shards.{HoldsShard, shard_at}
+use Rattle.warm_visits.specs.ShardNumbers.{IsShardCount, shard_of}
 
 -- As many nodes as there can be shards, each of this id and with the pages of its shard alone.
 -- Their horizons may differ.

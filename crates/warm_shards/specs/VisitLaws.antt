@@ -1,12 +1,11 @@
--- The laws of visits: alone a visit is the call of the one node, and among others either way the
--- whole has had the whole.
-use Rattle.std.specs.Prelude.{◌≡◌, ℕ, ◌%◌, ◌<◌, false, true, List, [], ◌∷◌, length, slice_set, Some}
+-- Laws of visits that nobody interrupts: such a visit is the call of the one node that has all
+-- references of the shards. For visits among others see the laws of warm_visits.
+use Rattle.std.specs.Prelude.{◌≡◌, ℕ, false, true, List, [], length, slice_set, Some}
 use Rattle.std.specs.Prelude.{None}
-use Rattle.std.specs.List.{AllByRecursion}
 use Rattle.warm_stamps.specs.declared.Reference.{Reference}
 use Rattle.warm_history.specs.Entry.{Entry}
-use Rattle.warm_history.specs.ReferenceSets.{ReferenceSet, set_of_list, ◌∪◌}
-use Rattle.warm_history.specs.Histories.{HistoryView, history, references_of}
+use Rattle.warm_history.specs.ReferenceSets.{ReferenceSet, set_of_list}
+use Rattle.warm_history.specs.Histories.{HistoryView, references_of}
 use Rattle.warm_frames.specs.declared.message.Message.{Message}
 use Rattle.warm_frames.specs.declared.message.Message.TheVariants.{Digest, Entries, Want}
 use Rattle.warm_machine.specs.declared.operation.Operation.{Operation}
@@ -16,14 +15,11 @@ use Rattle.warm_gossip.specs.declared.call.Call.TheVariants.{Absorb, Horizon, Of
 use Rattle.warm_gossip.specs.declared.call.Reply.TheVariants.{Answers, Done, Kept, Sent}
 use Rattle.warm_gossip.specs.State.{NodeState}
 use Rattle.warm_shards.specs.Clauses.{JoinsAll, KeepPools, TakesInFirst, Together}
-use Rattle.warm_shards.specs.Given.{at_horizon}
-use Rattle.warm_shards.specs.Shards.{AreShards, IsShardCount, shard_at, shard_of, whole}
-use Rattle.warm_shards.specs.Visits.{Ask, Enters, Errand, Said, VisitState, absorb_visit}
-use Rattle.warm_shards.specs.Visits.{answers_of, copy_of, copy_visit, given, giving, join_visit}
-use Rattle.warm_shards.specs.Visits.{kept_of, next_shard, offer_in, offer_visit, raise_visit}
-use Rattle.warm_shards.specs.Visits.{receive_visit, sending}
-
--- Nobody interrupts
+use Rattle.warm_shards.specs.Shards.{AreShards, shard_at, whole}
+use Rattle.warm_visits.specs.Visits.{Enters, Errand, Said, VisitState, absorb_visit}
+use Rattle.warm_visits.specs.Visits.{answers_of, copy_of, copy_visit, join_visit}
+use Rattle.warm_visits.specs.Visits.{kept_of, next_shard, offer_in, offer_visit, raise_visit}
+use Rattle.warm_visits.specs.Visits.{receive_visit}
 
 -- a visit, and shards that it alone enters
 pub record Alone : Type 0 where
@@ -91,61 +87,3 @@ pub record ReadingIsOneNode : Type 0 where
       → ReceivesAlone (Digest sender horizon digests)
   pub copies : Whenever copy_visit (λ old. EndsAlone
       (λ w new. copy_of w.made ≡ Some (whole old)) (set_of_list []) old)
-
--- Others come between
-
--- an entry into a shard that is in any state
-abbrev pub EntersAny : VisitState → Errand → Said → VisitState → Type 0
-EntersAny v e said w = (old new : NodeState) × Enters v old e said w new
-
--- what an errand gave its shard
-abbrev pub gave_errand : Ask → Said → ReferenceSet
-gave_errand (giving S) (given horizon) = S
-gave_errand ask said = set_of_list []
-
--- what the errands of a visit gave all shards together
-abbrev pub gave_all : List (Operation Errand Said) → ReferenceSet
-gave_all [] = set_of_list []
-gave_all (e ∷ es) = gave_errand e.call.ask e.reply ∪ gave_all es
-
--- Once such a visit is over, its errands together gave these references, whatever others did
--- between two of them.
-abbrev pub GivesAll : (ℕ → VisitState) → ReferenceSet → Type 0
-GivesAll visit S = (count : ℕ) (entries : List (Operation Errand Said)) (w : VisitState)
-    → IsShardCount count → Runs EntersAny (visit count) entries w → w.plan ≡ []
-    → (R : ReferenceSet) → history (R ∪ gave_all entries) ≡ history (R ∪ S)
-
--- Either way the whole has had the whole.
-pub record WholeIsGiven : Type 0 where
-  pub absorbs : (id : ℕ) (batch : List Reference)
-      → GivesAll (λ n. absorb_visit id n batch) (set_of_list batch)
-  pub raises : (id time : ℕ) → GivesAll (λ n. raise_visit id n time) (at_horizon time)
-  pub receives : (id : ℕ) (message : Message)
-      → GivesAll (λ n. receive_visit id n message) (refs_in message)
-  pub joins : (id : ℕ) (h : HistoryView) → GivesAll (λ n. join_visit id n h) (references_of h)
-
--- Whose pages
-
--- what is asked of a shard is of its pages and buckets alone
-abbrev pub IsOwnAsk : ℕ → ℕ → Ask → Type 0
-IsOwnAsk count i (giving S) = AllByRecursion (λ r. shard_of count r.page ≡ i) S.given
-IsOwnAsk count i (sending bucket after) = bucket % count ≡ i
-IsOwnAsk count i ask = Unit {0}
-
--- each errand is at a shard, and of its pages and buckets alone
-abbrev pub AreOwnErrands : ℕ → List Errand → Type 0
-AreOwnErrands count plan =
-    AllByRecursion (λ e. (e.shard < count) × IsOwnAsk count e.shard e.ask) plan
-
--- each errand of a visit is at a shard, and of its pages alone, and those of what it becomes are so
-pub record ErrandsAreOwn : Type 0 where
-  pub absorbs : (id count : ℕ) (batch : List Reference) → IsShardCount count
-      → AreOwnErrands count (absorb_visit id count batch).plan
-  pub raises : (id count time : ℕ) → IsShardCount count
-      → AreOwnErrands count (raise_visit id count time).plan
-  pub receives : (id count : ℕ) (message : Message) → IsShardCount count
-      → AreOwnErrands count (receive_visit id count message).plan
-  pub joins : (id count : ℕ) (h : HistoryView) → IsShardCount count
-      → AreOwnErrands count (join_visit id count h).plan
-  pub stays : (v w : VisitState) (e : Errand) (said : Said) → IsShardCount v.count
-      → AreOwnErrands v.count v.plan → EntersAny v e said w → AreOwnErrands w.count w.plan

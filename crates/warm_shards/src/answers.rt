@@ -1,46 +1,23 @@
-//! What all shards together answer to digests and to a request.
+//! What all shards together offer, and what they answer to digests and to a request.
 ghost use Rattle.std.specs.Prelude.{◌≡◌, ◌↔◌, ◌<◌, length, IfErr, IfOk, IsTrue};
-ghost use Rattle.warm_stamps.specs.declared.TheConstants.{BUCKETS};
 ghost use Rattle.warm_frames.specs.declared.message.Message.{Message};
 ghost use Rattle.warm_peer.specs.Answers.{IsAnswer};
 ghost use Rattle.warm_gossip.specs.declared.fault.NodeFault.TheVariants.{Memory};
 ghost use Rattle.warm_shards.specs.Clauses.{SameShards};
-ghost use Rattle.warm_shards.specs.Digests.{FillsShard};
-ghost use Rattle.warm_shards.specs.Given.{OffersAll, ReceivesAll};
+ghost use Rattle.warm_shards.specs.Given.{OffersTogether, ReceivesAll};
 ghost use Rattle.warm_shards.specs.Shards.{AreShards, shard_at, whole};
-ghost use Rattle.warm_shards.specs.Visits.{HasEntries, receive_visit};
+ghost use Rattle.warm_visits.specs.Visits.{HasEntries, receive_visit};
 
 use crate::go_through::go_through;
-use crate::visit::Visit;
 use std::alloc::{AllocError, Global};
 use warm_devices::PageDevice;
-use warm_frames::{DIGEST_SIZE, DigestTable, Message, MessageList};
+use warm_frames::{Message, MessageList};
 use warm_gossip::{Node, NodeFault};
 use warm_peer::Peer;
-use warm_stamps::{BUCKETS, Bucket};
+use warm_visits::Visit;
 
-/// Copies the digests of one shard's buckets from a table into their places. The other digests are
-/// unchanged. Bucket b is of shard b modulo `count`.
-pub fn fill_digests(
-    digests: &mut [[u8; DIGEST_SIZE]; BUCKETS as usize],
-    table: &DigestTable,
-    count: usize,
-    shard: usize,
-)
-    requires { 0 < count }
-    ensures { FillsShard count shard digests.old table.now digests.new }
-{
-    for number in 0..BUCKETS {
-        let Some(bucket) = Bucket::new(number) else {
-            unreachable!()
-        };
-        if number as usize % count == shard {
-            digests[number as usize] = table.digest(bucket);
-        }
-    }
-}
-
-/// Lets a visit into the nodes by which they receive digests or a request, and returns their answer.
+/// Lets a visit into the nodes by which they receive digests or a request, and returns their
+/// answer.
 ///
 /// `Memory` occurs only if an allocation fails.
 pub(crate) fn visited<D: PageDevice>(
@@ -68,7 +45,7 @@ pub(crate) fn offer_of_all<D: PageDevice>(
     nodes: &mut Vec<Node<D>>,
 ) -> Result<Message, NodeFault>
     requires { AreShards nodes.old.items }
-    ensures { OffersAll nodes.old.items result nodes.new.items }
+    ensures { OffersTogether nodes.old.items result nodes.new.items }
 {
     let mut visit = Visit::offer(alloc, nodes[0].id(), nodes.len())?;
     go_through(nodes, &mut visit)?;

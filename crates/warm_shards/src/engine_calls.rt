@@ -11,7 +11,8 @@ ghost use Rattle.warm_pool.specs.Outcomes.{WritePageFails, WriteSomeFails, Write
 ghost use Rattle.warm_pool.specs.Outcomes.{WritesSomeBack, ZeroesPage};
 ghost use Rattle.warm_pool.specs.View.{Holds, view_of};
 ghost use Rattle.warm_shards.specs.Clauses.{KeepsOtherShards};
-ghost use Rattle.warm_shards.specs.Shards.{shard_at, shard_of};
+ghost use Rattle.warm_shards.specs.Shards.{shard_at};
+ghost use Rattle.warm_visits.specs.ShardNumbers.{shard_of};
 
 use crate::pool_calls::ShardSlot;
 use crate::shards::Shards;

@@ -1,11 +1,11 @@
 //! Visits of nodes that nobody else has: a visit enters one after the other.
 ghost use Rattle.std.specs.Prelude.{◌≡◌, length, None};
 ghost use Rattle.warm_shards.specs.VisitLaws.{GoesAlone};
-ghost use Rattle.warm_shards.specs.Visits.{next_shard, result_of};
+ghost use Rattle.warm_visits.specs.Visits.{next_shard, result_of};
 
-use crate::visit::Visit;
 use warm_devices::PageDevice;
 use warm_gossip::{Node, NodeFault};
+use warm_visits::Visit;
 
 /// Lets a visit into the nodes, until it has no errand, or a node has refused one.
 pub(crate) fn go_through<D: PageDevice>(

@@ -15,7 +15,6 @@ use crate::answers::{answered, offer_of_all, visited};
 use crate::history_calls::raise_all;
 use crate::joining::join_parts;
 use crate::shards::Shards;
-use crate::visit::{Visit, entries_of};
 use std::alloc::Global;
 use warm_devices::PageDevice;
 use warm_frames::{Message, MessageList};
@@ -23,6 +22,7 @@ use warm_gossip::{Node, NodeFault};
 use warm_history::History;
 use warm_peer::SentPortion;
 use warm_stamps::{Bucket, PageId};
+use warm_visits::{Visit, entries_of};
 
 // Takes the entries of a message in, or answers it. Entries that are of pages of one shard are not
 // copied.

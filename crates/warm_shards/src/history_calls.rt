@@ -7,18 +7,19 @@ ghost use Rattle.warm_gossip.specs.declared.call.Reply.TheVariants.{Done, Kept, 
 ghost use Rattle.warm_gossip.specs.declared.fault.NodeFault.TheVariants.{Memory};
 ghost use Rattle.warm_shards.specs.Clauses.{KeepPools, TakesInFirst, Together};
 ghost use Rattle.warm_shards.specs.Clauses.{TogetherAnswered};
-ghost use Rattle.warm_shards.specs.Given.{AreGiven, Gives, at_horizon};
-ghost use Rattle.warm_shards.specs.Shards.{AreShards, shard_of, whole};
+ghost use Rattle.warm_shards.specs.Given.{AreGiven, Gives};
+ghost use Rattle.warm_shards.specs.Shards.{AreShards, whole};
+ghost use Rattle.warm_visits.specs.Given.{at_horizon};
+ghost use Rattle.warm_visits.specs.ShardNumbers.{shard_of};
 
-use crate::batch_parts::only_shard;
 use crate::go_through::go_through;
 use crate::shards::Shards;
-use crate::visit::Visit;
 use std::alloc::Global;
 use warm_devices::PageDevice;
 use warm_gossip::{Node, NodeFault};
 use warm_rank::warm_list;
 use warm_stamps::{PageList, Reference};
+use warm_visits::{Visit, only_shard};
 
 // The node of a shard absorbs a batch whose pages are all of that shard. Nothing is copied.
 fn absorb_alone<D: PageDevice>(

@@ -3,15 +3,15 @@ ghost use Rattle.std.specs.Prelude.{◌≡◌, ◌<◌, ◌≤◌, length};
 ghost use Rattle.std.specs.List.{AllByRecursion};
 ghost use Rattle.warm_history.specs.Histories.{history_of_entries_at, references_of};
 ghost use Rattle.warm_shards.specs.Given.{Gives};
-ghost use Rattle.warm_shards.specs.Shards.{AreShards, shard_at, shard_of};
+ghost use Rattle.warm_shards.specs.Shards.{AreShards, shard_at};
+ghost use Rattle.warm_visits.specs.ShardNumbers.{shard_of};
 
-use crate::batch_parts::only_shard;
 use crate::go_through::go_through;
-use crate::visit::Visit;
 use std::alloc::Global;
 use warm_devices::PageDevice;
 use warm_gossip::{Node, NodeFault};
 use warm_history::Entry;
+use warm_visits::{Visit, only_shard};
 
 // The node of a shard takes in entries of its pages. All shards have the horizon.
 fn join_alone<D: PageDevice>(

@@ -1,13 +1,11 @@
 //! Laws of shards. Each function changes nothing: its contract is a theorem, which
-//! `specs/Laws.antt`, or `specs/PartLaws.antt`, states in full.
+//! `specs/Laws.antt`, `specs/PartLaws.antt`, or `specs/VisitLaws.antt` states in full.
 ghost use Rattle.warm_shards.specs.Laws.{FailuresStayInShard, FirstAreGiven};
 ghost use Rattle.warm_shards.specs.Laws.{ShardVictimsAreFarthest, ShardsStand};
 ghost use Rattle.warm_shards.specs.Laws.{StepsStayInShard, WholeIsOfGiven};
 ghost use Rattle.warm_shards.specs.PartLaws.{BatchIsOfParts, DigestsAreGathered, GatheredIsWhole};
 ghost use Rattle.warm_shards.specs.PartLaws.{HistoryIsOfParts, MessageIsOfParts, OneTakesIn};
-ghost use Rattle.warm_shards.specs.VisitLaws.{ErrandsAreOwn, GivingIsOneNode, ReadingIsOneNode};
-ghost use Rattle.warm_shards.specs.VisitLaws.{WholeIsGiven};
-ghost use Rattle.warm_shards.specs.VisitMessages.{TakenAreTheAnswer};
+ghost use Rattle.warm_shards.specs.VisitLaws.{GivingIsOneNode, ReadingIsOneNode};
 
 /// Whatever references all shards together stand for, after a call of the whole they stand for
 /// those with what the call gave: that of a batch, of a message, of a horizon. So they stand for
@@ -74,22 +72,4 @@ pub fn gathered_is_whole()
 pub fn visit_is_one_node()
     ensures giving { GivingIsOneNode }
     ensures reading { ReadingIsOneNode }
-{}
-
-/// Once a visit is over, its errands together gave the batch, the horizon, the message or the
-/// history, whatever others did between two of them.
-pub fn visit_gives_the_whole()
-    ensures { WholeIsGiven }
-{}
-
-/// Each errand of a visit is at a shard, and of its pages and buckets alone; so are those of what
-/// it becomes, whatever others do between two entries.
-pub fn errands_are_own()
-    ensures { ErrandsAreOwn }
-{}
-
-/// Whoever takes the messages of an answer out as they are made has, with those that are left, the
-/// answer.
-pub fn taken_are_the_answer()
-    ensures { TakenAreTheAnswer }
 {}

@@ -15,12 +15,9 @@
 #![tactic(auto)]
 
 mod answers;
-mod batch_parts;
 mod each_shard;
 mod engine_calls;
 mod fault;
-mod gathering;
-mod giving;
 mod go_through;
 mod gossip;
 mod history_calls;
@@ -29,17 +26,10 @@ pub mod laws;
 mod lending;
 mod message_parts;
 mod pool_calls;
-mod reading;
-mod sending;
 mod shards;
 mod shards_of_nodes;
-mod visit;
-mod visit_messages;
 
-pub use answers::fill_digests;
-pub use batch_parts::parts_of;
 pub use fault::{ShardsError, ShardsFault};
 pub use message_parts::{part_of_entries, part_of_message};
 pub use pool_calls::ShardSlot;
-pub use shards::{Shards, frames_of_shard, is_shard_count, shard_of};
-pub use visit::Visit;
+pub use shards::{Shards, frames_of_shard};

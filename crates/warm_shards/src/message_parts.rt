@@ -2,14 +2,15 @@
 ghost use Rattle.std.specs.Prelude.{◌≡◌, IfOk};
 ghost use Rattle.warm_frames.specs.Entries.{FitsInFrame};
 ghost use Rattle.warm_frames.specs.Limits.{entries_in};
-ghost use Rattle.warm_shards.specs.Parts.{part_of_entries, part_of_message, sender_in};
-ghost use Rattle.warm_shards.specs.Shards.{IsShardCount};
+ghost use Rattle.warm_shards.specs.Parts.{part_of_message, sender_in};
+ghost use Rattle.warm_visits.specs.Parts.{part_of_entries};
+ghost use Rattle.warm_visits.specs.ShardNumbers.{IsShardCount};
 
-use crate::shards::shard_of;
 use std::alloc::{AllocError, Global};
 use warm_frames::{EntryList, Message};
 use warm_history::Entry;
 use warm_stamps::ReplicaId;
+use warm_visits::shard_of;
 
 // The replica that sent a message.
 fn sender_of(message: &Message) -> ReplicaId

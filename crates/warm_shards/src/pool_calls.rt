@@ -14,7 +14,8 @@ ghost use Rattle.warm_pool.specs.View.{unfixed_pages, view_of};
 ghost use Rattle.warm_pool.specs.WritingBack.{WriteBackFails};
 ghost use Rattle.warm_rank.specs.Ranking.{IsVictim};
 ghost use Rattle.warm_shards.specs.Clauses.{KeepsOtherShards};
-ghost use Rattle.warm_shards.specs.Shards.{shard_at, shard_of, whole};
+ghost use Rattle.warm_shards.specs.Shards.{shard_at, whole};
+ghost use Rattle.warm_visits.specs.ShardNumbers.{shard_of};
 
 use crate::shards::Shards;
 use warm_devices::PageDevice;

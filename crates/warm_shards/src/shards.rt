@@ -1,11 +1,11 @@
 //! The shards of a replica.
 ghost use Rattle.std.specs.Prelude.{◌≡◌, ◌↔◌, ◌<◌, ◌*◌, [], length, IfErr, IfOk, IsTrue};
+ghost use Rattle.std.specs.List.{All};
 ghost use Rattle.warm_history.specs.Histories.{history_of_entries};
 ghost use Rattle.warm_gossip.specs.declared.fault.NodeFault.TheVariants.{Memory};
 ghost use Rattle.warm_shards.specs.Dividing.{IsDivisionRefused, IsOpeningRefused};
-ghost use Rattle.warm_shards.specs.Shards.{AreOpened, AreShards, IsOpened, IsShardCount};
-ghost use Rattle.warm_shards.specs.Shards.{shard_at, shard_of, whole};
-ghost use Rattle.std.specs.List.{All};
+ghost use Rattle.warm_shards.specs.Shards.{AreOpened, AreShards, IsOpened, shard_at, whole};
+ghost use Rattle.warm_visits.specs.ShardNumbers.{IsShardCount, shard_of};
 
 use crate::fault::{ShardsError, ShardsFault};
 use std::alloc::{AllocError, Global};
@@ -13,7 +13,8 @@ use std::marker::Model;
 use warm_devices::PageDevice;
 use warm_gossip::Node;
 use warm_history::History;
-use warm_stamps::{BUCKETS, PageId, ReplicaId, bucket_of};
+use warm_stamps::{PageId, ReplicaId};
+use warm_visits::{is_shard_count, shard_of};
 
 /// The shards of one replica: nodes of one id, as many as a power of two up to 64. Each has the
 /// references to the pages of its buckets, and these pages in its pool.
@@ -45,13 +46,6 @@ impl<D: PageDevice> Model for Shards<D> {
     ghost invariant = { λ s. AreShards s.nodes.items };
 }
 
-/// Whether there can be this many shards: a power of two, up to 64. Allocation-free.
-pub fn is_shard_count(count: usize) -> bool
-    ensures { IsTrue result ↔ IsShardCount count }
-{
-    count.is_power_of_two() && count <= usize::from(BUCKETS)
-}
-
 /// How many frames each shard has if this many are divided among this many shards. Allocation-free.
 ///
 /// # Errors
@@ -68,15 +62,6 @@ pub fn frames_of_shard(frames: usize, shards: usize) -> Result<usize, ShardsFaul
         return Err(ShardsFault::Uneven);
     }
     Ok(frames / shards)
-}
-
-/// The shard of a page, of this many: its bucket, modulo their number. Allocation-free.
-pub fn shard_of(count: usize, page: PageId) -> usize
-    requires { IsShardCount count }
-    ensures value { result ≡ shard_of count page }
-    ensures below { result < count }
-{
-    usize::from(bucket_of(page).get()) % count
 }
 
 impl<D: PageDevice> Shards<D> {

@@ -3,21 +3,22 @@ ghost use Rattle.std.specs.Prelude.{◌≡◌, ◌↔◌, length, IfErr, IfOk, I
 ghost use Rattle.std.specs.List.{AllByRecursion};
 ghost use Rattle.warm_history.specs.Histories.{entries_of};
 ghost use Rattle.warm_pool.specs.View.{view_of};
+ghost use Rattle.warm_shards.specs.EachShard.{OfEach, Rises};
+ghost use Rattle.warm_shards.specs.Shards.{HasPagesOf, HoldsShard, whole};
 ghost use Rattle.warm_shards.specs.ShardsOfNodes.{AreOwnOf, CanBeShards, IsFormingRefused};
 ghost use Rattle.warm_shards.specs.ShardsOfNodes.{IsOwnIfResident};
-ghost use Rattle.warm_shards.specs.Shards.{HasPagesOf, HoldsShard, IsShardCount, shard_of};
-ghost use Rattle.warm_shards.specs.Shards.{whole};
-ghost use Rattle.warm_shards.specs.EachShard.{OfEach, Rises};
+ghost use Rattle.warm_visits.specs.ShardNumbers.{IsShardCount, shard_of};
 
 use crate::each_shard::raise_first;
 use crate::fault::{ShardsError, ShardsFault};
-use crate::shards::{Shards, is_shard_count, shard_of};
+use crate::shards::Shards;
 use std::alloc::Global;
 use warm_devices::PageDevice;
 use warm_gossip::Node;
 use warm_history::History;
 use warm_pool::Pool;
 use warm_stamps::{PageId, ReplicaId};
+use warm_visits::{is_shard_count, shard_of};
 
 // Whether all entries of a history are of pages of this shard.
 fn knows_only(history: &History, count: usize, shard: usize) -> bool

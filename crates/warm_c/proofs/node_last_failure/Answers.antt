@@ -1,5 +1,5 @@
 use Rattle.std.proofs.Common.{rules, Ok, to_z, of_z, w32}
-use Rattle.warm_c.specs.CountCalls.{SaysFailure}
+use Rattle.warm_c_calls.specs.CountCalls.{SaysFailure}
 use Rattle.warm_c.specs.Handles.{Surely}
 use Rattle.warm_c.proofs.HandleLemmas.{called}
 use Rattle.warm_c.proofs.node_last_failure.Goals as goal

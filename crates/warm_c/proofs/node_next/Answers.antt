@@ -1,7 +1,7 @@
 use Rattle.std.proofs.Common.{rules, Ok, Err, to_z, of_z, w32}
-use Rattle.warm_c.specs.FilledPins.{NamesNext}
+use Rattle.warm_c_calls.specs.FilledPins.{NamesNext}
 use Rattle.warm_c.proofs.HandleLemmas.{called}
-use Rattle.warm_c.proofs.FilledPinLemmas.{next_refused}
+use Rattle.warm_c_calls.proofs.FilledPinLemmas.{next_refused}
 use Rattle.warm_c.proofs.node_next.Goals as goal
 
 pub returns-in-Ok-clause-called : goal.returns-in-Ok-clause-called

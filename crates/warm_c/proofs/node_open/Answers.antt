@@ -1,7 +1,7 @@
 use Rattle.std.proofs.Common.{rules, to_z, of_z, w32}
 use Rattle.warm_gossip.specs.declared.fault.NodeFault.TheVariants.{Memory}
 use Rattle.warm_c_base.specs.declared.status.Refusal.TheVariants.{Node}
-use Rattle.warm_c.specs.Handles.{open_request}
+use Rattle.warm_c_calls.specs.Opening.{open_request}
 use Rattle.warm_c.proofs.HandleLemmas.{open_refused}
 use Rattle.warm_c.proofs.node_open.Goals as goal
 

@@ -1,7 +1,8 @@
 use Rattle.std.proofs.Common.{rules, Ok, refl, to_z, of_z, w32}
-use Rattle.warm_c.specs.Calls.{SaysResident}
+use Rattle.warm_c_calls.specs.Calls.{SaysResident}
 use Rattle.warm_c.specs.Handles.{Surely}
-use Rattle.warm_c.proofs.HandleLemmas.{called, bool_same}
+use Rattle.warm_c.proofs.HandleLemmas.{called}
+use Rattle.warm_c_calls.proofs.BoolLemmas.{bool_same}
 use Rattle.warm_c.proofs.node_resident.Goals as goal
 
 pub returns-clause-called : goal.returns-clause-called

@@ -1,5 +1,5 @@
 use Rattle.std.proofs.Common.{rules, refl, Ok, Err, to_z, of_z, w32}
-use Rattle.warm_c.specs.Calls.{StepsWarmUp}
+use Rattle.warm_c_calls.specs.Calls.{StepsWarmUp}
 use Rattle.warm_c.proofs.HandleLemmas.{called}
 use Rattle.warm_c.proofs.node_step.Goals as goal
 

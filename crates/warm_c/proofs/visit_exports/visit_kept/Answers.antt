@@ -1,6 +1,6 @@
 use Rattle.std.proofs.Common.{rules, to_z, of_z, w32, Ok, refl}
 use Rattle.warm_c.specs.Handles.{Surely}
-use Rattle.warm_c.specs.Visits.{SaysKept}
+use Rattle.warm_c_calls.specs.Visits.{SaysKept}
 use Rattle.warm_c.proofs.HandleLemmas.{called}
 use Rattle.warm_c.proofs.visit_exports.visit_kept.Goals as goal
 

@@ -15,8 +15,8 @@ returns-then-not-is_shard_count c =
     visits_refused c.args.replica c.args.shards c.args.handle.now.held.visit c.take.new.self.held.visit (to_z w32 (of_z w32 c.status_of-then-not-is_shard_count.result)) BadShards (search rules) (search rules) (search rules)
     (c.in-Ok.ensures.taken.0 refl, λ is. let no : false ≡ true = sym not ∙ c.is_shard_count.ensures.1 is in absurd (cc))
 
-pub returns-in-Err : goal.returns-in-Err
-returns-in-Err c =
+pub returns : goal.returns
+returns c =
     let is : c.is_shard_count.result ≡ true = search rules in
     visits_refused c.args.replica c.args.shards c.args.handle.now.held.visit c.take.new.self.held.visit (to_z w32 (of_z w32 c.status_of-in-Err.result)) (Node Memory) (search rules) (search rules) (search rules)
     (c.in-Ok.ensures.taken.0 refl, c.is_shard_count.ensures.0 is)

@@ -1,7 +1,7 @@
 use Rattle.std.proofs.Common.{rules, Ok, to_z, of_z, w32}
-use Rattle.warm_shards.specs.Visits.{raise_visit}
+use Rattle.warm_visits.specs.Visits.{raise_visit}
 use Rattle.warm_c.specs.Handles.{Surely}
-use Rattle.warm_c.specs.Visits.{BeginsVisit}
+use Rattle.warm_c_calls.specs.Visits.{BeginsVisit}
 use Rattle.warm_c.proofs.HandleLemmas.{called}
 use Rattle.warm_c.proofs.visit_exports.visit_raise.Goals as goal
 

@@ -1,11 +1,9 @@
-use Rattle.std.proofs.Common.{◌≡◌, ◌<◌, ◌≤◌, length, true, ap, subst, ◌∙◌, arith}
+use Rattle.std.proofs.Common.{◌≡◌, ◌<◌, ◌≤◌, length, true, subst, ◌∙◌, arith}
 use Rattle.warm_frames.specs.Limits.{horizon_in}
-use Rattle.warm_gossip.specs.State.{NodeState}
 use Rattle.warm_shards.specs.Shards.{shard_at, whole}
-use Rattle.warm_shards.specs.Visits.{receive_visit}
+use Rattle.warm_visits.specs.Visits.{receive_visit}
 use Rattle.warm_shards.proofs.AnswerLemmas.{not_later}
-use Rattle.warm_shards.proofs.AreShardsLemmas.{some_shards}
-use Rattle.warm_shards.proofs.Calls.{read_at}
+use Rattle.warm_shards.proofs.Calls.{first_id}
 use Rattle.warm_shards.proofs.VisitReceives.{answers_so, no_entries, only_memory, same_not_later}
 use Rattle.warm_shards.proofs.answers.answered.Goals as goal
 
@@ -15,7 +13,7 @@ returns g c =
     let new = c.visited.new.nodes.items in
     let message = c.args.message.now in
     let none = no_entries message c.in_default.not-Entries in
-    let id = c.id.ensures ∙ ap (λ (n : NodeState). n.id) (read_at old 0 c.index.result.now c.index.result.now (some_shards old c.requires) c.index.ensures) in
+    let id = first_id c.index.result.now c.requires c.index.ensures c.id.ensures in
     let count : c.len.result ≡ length old = omega (arith, c.len.ensures, c.args.nodes.now.ok.0) in
     let is : c.in_ok-visit.visit ≡ receive_visit (shard_at old 0).id (length old) message = c.in_ok-visit.ensures ∙ (λ i. receive_visit (id i) (count i) message) in
     let had = c.visited.ensures message none is in

@@ -1,10 +1,6 @@
-use Rattle.std.proofs.Common.{◌≡◌, length, sym, ap, ◌∙◌, arith}
+use Rattle.std.proofs.Common.{sym, ◌∙◌, arith}
 use Rattle.std.proofs.lemmas.Result.{err_from_is_err_and}
-use Rattle.warm_gossip.specs.State.{NodeState}
-use Rattle.warm_shards.specs.Shards.{shard_at}
-use Rattle.warm_shards.specs.Visits.{offer_visit}
-use Rattle.warm_shards.proofs.AreShardsLemmas.{some_shards}
-use Rattle.warm_shards.proofs.Calls.{read_at}
+use Rattle.warm_shards.proofs.Calls.{first_id}
 use Rattle.warm_shards.proofs.VisitReceives.{going_if, offers_all, offers_none, offers_refused, offers_so, offers_some, stopped_if}
 use Rattle.warm_shards.proofs.answers.offer_of_all.Goals as goal
 
@@ -19,10 +15,7 @@ returns-in_err-go_through g c =
     let old = c.args.nodes.now.items in
     let new = c.go_through.new.nodes.items in
     let after = c.go_through.new.visit in
-    let id = c.id.ensures ∙ ap (λ (n : NodeState). n.id) (read_at old 0 c.index.result.now c.index.result.now (some_shards old c.requires) c.index.ensures) in
-    let count : c.len.result ≡ length old = omega (arith, c.len.ensures, c.args.nodes.now.ok.0) in
-    let is : c.in_ok-visit.visit ≡ offer_visit (shard_at old 0).id (length old) = c.in_ok-visit.ensures ∙ (λ i. offer_visit (id i) (count i)) in
-    let ends = offers_so old new c.in_ok-visit.visit after c.requires is c.go_through.ensures.gone c.go_through.ensures.over in
+    let ends = offers_so old new c.in_ok-visit.visit after c.id.result c.len.result c.requires c.in_ok-visit.ensures (first_id c.index.result.now c.requires c.index.ensures c.id.ensures) (omega (arith, c.len.ensures, c.args.nodes.now.ok.0)) c.go_through.ensures.gone c.go_through.ensures.over in
     let why = stopped_if after.stopped c.in_err-go_through.field-0.0 (sym c.in_err-go_through.was ∙ c.go_through.ensures.returned) in
     rw (given.1) (offers_refused old new after given.0 ends why.0 (given.2 ∙ why.1))
 
@@ -31,10 +24,7 @@ unreachable-requires g c =
     let old = c.args.nodes.now.items in
     let new = c.go_through.new.nodes.items in
     let after = c.go_through.new.visit in
-    let id = c.id.ensures ∙ ap (λ (n : NodeState). n.id) (read_at old 0 c.index.result.now c.index.result.now (some_shards old c.requires) c.index.ensures) in
-    let count : c.len.result ≡ length old = omega (arith, c.len.ensures, c.args.nodes.now.ok.0) in
-    let is : c.in_ok-visit.visit ≡ offer_visit (shard_at old 0).id (length old) = c.in_ok-visit.ensures ∙ (λ i. offer_visit (id i) (count i)) in
-    let ends = offers_so old new c.in_ok-visit.visit after c.requires is c.go_through.ensures.gone c.go_through.ensures.over in
+    let ends = offers_so old new c.in_ok-visit.visit after c.id.result c.len.result c.requires c.in_ok-visit.ensures (first_id c.index.result.now c.requires c.index.ensures c.id.ensures) (omega (arith, c.len.ensures, c.args.nodes.now.ok.0)) c.go_through.ensures.gone c.go_through.ensures.over in
     let well = going_if after.stopped c.in_ok-go_through.field-0 (sym c.in_ok-go_through.was ∙ c.go_through.ensures.returned) in
     offers_some old new after ends well (sym c.in_default.is ∙ c.offered.ensures)
 
@@ -43,9 +33,6 @@ returns g c =
     let old = c.args.nodes.now.items in
     let new = c.go_through.new.nodes.items in
     let after = c.go_through.new.visit in
-    let id = c.id.ensures ∙ ap (λ (n : NodeState). n.id) (read_at old 0 c.index.result.now c.index.result.now (some_shards old c.requires) c.index.ensures) in
-    let count : c.len.result ≡ length old = omega (arith, c.len.ensures, c.args.nodes.now.ok.0) in
-    let is : c.in_ok-visit.visit ≡ offer_visit (shard_at old 0).id (length old) = c.in_ok-visit.ensures ∙ (λ i. offer_visit (id i) (count i)) in
-    let ends = offers_so old new c.in_ok-visit.visit after c.requires is c.go_through.ensures.gone c.go_through.ensures.over in
+    let ends = offers_so old new c.in_ok-visit.visit after c.id.result c.len.result c.requires c.in_ok-visit.ensures (first_id c.index.result.now c.requires c.index.ensures c.id.ensures) (omega (arith, c.len.ensures, c.args.nodes.now.ok.0)) c.go_through.ensures.gone c.go_through.ensures.over in
     let well = going_if after.stopped c.in_ok-go_through.field-0 (sym c.in_ok-go_through.was ∙ c.go_through.ensures.returned) in
     offers_all old new after c.in-Some.offer ends well (sym c.in-Some.is ∙ c.offered.ensures)

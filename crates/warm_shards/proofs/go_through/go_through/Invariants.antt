@@ -1,6 +1,6 @@
 use Rattle.std.proofs.Common.{◌≡◌, length}
 use Rattle.warm_shards.specs.VisitLaws.{GoesAlone}
-use Rattle.warm_shards.specs.Visits.{entries_left}
+use Rattle.warm_visits.specs.Visits.{entries_left}
 use Rattle.warm_shards.proofs.go_through.go_through.Given as goal
 
 -- the visit has become this one, and the nodes these

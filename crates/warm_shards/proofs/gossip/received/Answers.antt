@@ -6,12 +6,11 @@ use Rattle.warm_frames.specs.declared.message.Message.TheVariants.{Entries}
 use Rattle.warm_gossip.specs.declared.fault.NodeFault.{NodeFault}
 use Rattle.warm_peer.specs.Answers.{refs_in}
 use Rattle.warm_gossip.specs.declared.fault.NodeFault.TheVariants.{Memory}
-use Rattle.warm_gossip.specs.State.{NodeState}
-use Rattle.warm_shards.specs.Given.{AreGiven, ReceivesAll, at_horizon}
+use Rattle.warm_shards.specs.Given.{AreGiven, ReceivesAll}
+use Rattle.warm_visits.specs.Given.{at_horizon}
 use Rattle.warm_shards.specs.Shards.{shard_at}
-use Rattle.warm_shards.specs.Visits.{receive_visit}
-use Rattle.warm_shards.proofs.AreShardsLemmas.{some_shards}
-use Rattle.warm_shards.proofs.Calls.{read_at}
+use Rattle.warm_visits.specs.Visits.{receive_visit}
+use Rattle.warm_shards.proofs.Calls.{first_id}
 use Rattle.warm_shards.proofs.GivenLemmas.{raised_gives, raised_late}
 use Rattle.warm_shards.proofs.VisitReceives.{no_entries, receives_given, receives_none, receives_some}
 use Rattle.warm_shards.proofs.gossip.received.Goals as goal
@@ -56,7 +55,7 @@ pub returns : goal.returns
 returns g c =
     let old = c.args.nodes.now.items in
     let message = c.args.message in
-    let id = c.id.ensures ∙ ap (λ (n : NodeState). n.id) (read_at old 0 c.index.result.now c.index.result.now (some_shards old c.requires) c.index.ensures) in
+    let id = first_id c.index.result.now c.requires c.index.ensures c.id.ensures in
     let count : c.len.result ≡ length old = omega (arith, c.len.ensures, c.args.nodes.now.ok.0) in
     let is : c.in-Ok.visit ≡ receive_visit (shard_at old 0).id (length old) message = subst (λ r. IfOk r (λ visit. visit ≡ receive_visit c.id.result c.len.result message)) c.in-Ok.is c.receive.ensures ∙ (λ i. receive_visit (id i) (count i) message) in
     c.visited.ensures message (no_entries message c.in_default.not-Entries) is

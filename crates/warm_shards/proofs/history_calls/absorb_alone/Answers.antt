@@ -1,6 +1,7 @@
 use Rattle.std.proofs.Common.{arith}
 use Rattle.warm_history.specs.ReferenceSets.{set_of_list}
-use Rattle.warm_shards.proofs.GivenLemmas.{absorbs, gives_alone}
+use Rattle.warm_shards.proofs.GivenLemmas.{gives_alone}
+use Rattle.warm_visits.proofs.GivenLemmas.{absorbs}
 use Rattle.warm_shards.proofs.history_calls.absorb_alone.Goals as goal
 
 pub returns : goal.returns

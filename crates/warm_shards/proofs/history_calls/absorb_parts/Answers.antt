@@ -4,7 +4,7 @@ use Rattle.warm_history.specs.ReferenceSets.{set_of_list}
 use Rattle.warm_gossip.specs.declared.fault.NodeFault.{NodeFault}
 use Rattle.warm_shards.specs.Given.{Gives}
 use Rattle.warm_shards.specs.VisitLaws.{GoesAlone}
-use Rattle.warm_shards.specs.Visits.{VisitState}
+use Rattle.warm_visits.specs.Visits.{VisitState}
 use Rattle.warm_shards.proofs.GivenLemmas.{gives_none}
 use Rattle.warm_shards.proofs.VisitSweeps.{alone_absorbs}
 use Rattle.warm_shards.proofs.history_calls.absorb_parts.Goals as goal

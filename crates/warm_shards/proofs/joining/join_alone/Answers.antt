@@ -1,7 +1,8 @@
 use Rattle.std.proofs.Common.{◌≡◌, length}
 use Rattle.warm_history.specs.Histories.{history_of_entries_at, references_of}
-use Rattle.warm_shards.specs.Shards.{shard_of}
-use Rattle.warm_shards.proofs.GivenLemmas.{gives_alone, joins}
+use Rattle.warm_visits.specs.ShardNumbers.{shard_of}
+use Rattle.warm_shards.proofs.GivenLemmas.{gives_alone}
+use Rattle.warm_visits.proofs.GivenLemmas.{joins}
 use Rattle.warm_shards.proofs.Pages.{all_held}
 use Rattle.warm_shards.proofs.joining.join_alone.Goals as goal
 

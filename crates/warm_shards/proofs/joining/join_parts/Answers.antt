@@ -4,7 +4,7 @@ use Rattle.warm_history.specs.Histories.{history_of_entries_at, references_of}
 use Rattle.warm_gossip.specs.declared.fault.NodeFault.{NodeFault}
 use Rattle.warm_shards.specs.Given.{Gives}
 use Rattle.warm_shards.specs.VisitLaws.{GoesAlone}
-use Rattle.warm_shards.specs.Visits.{VisitState}
+use Rattle.warm_visits.specs.Visits.{VisitState}
 use Rattle.warm_shards.proofs.GivenLemmas.{gives_none}
 use Rattle.warm_shards.proofs.VisitSweeps.{alone_gives}
 use Rattle.warm_shards.proofs.joining.join_parts.Goals as goal

@@ -1,6 +1,6 @@
 use Rattle.std.proofs.Common.{sym, subst, ap, ◌∙◌}
 use Rattle.warm_frames.specs.Entries.{FitsInFrame}
-use Rattle.warm_shards.specs.Parts.{part_of_entries}
+use Rattle.warm_visits.specs.Parts.{part_of_entries}
 use Rattle.warm_shards.proofs.PartEntries.{part_fits}
 use Rattle.warm_shards.proofs.message_parts.entries_for.Goals as goal
 

@@ -1,5 +1,5 @@
 use Rattle.std.proofs.Common.{◌≡◌, take}
-use Rattle.warm_shards.specs.Parts.{part_of_entries}
+use Rattle.warm_visits.specs.Parts.{part_of_entries}
 use Rattle.warm_shards.proofs.message_parts.part_of_entries.Given as goal
 
 -- the part of the entries so far

@@ -1,6 +1,6 @@
 use Rattle.std.proofs.Common.{◌≡◌, ◌++◌, sym, ap, subst, ◌∙◌}
 use Rattle.std.specs.List.{AllByRecursion}
-use Rattle.warm_shards.specs.Shards.{shard_of}
+use Rattle.warm_visits.specs.ShardNumbers.{shard_of}
 use Rattle.warm_shards.proofs.Residents.{one_between}
 use Rattle.warm_shards.proofs.shards_of_nodes.knows_only.Goals as goal
 

@@ -1,7 +1,7 @@
 use Rattle.std.proofs.Common.{◌≡◌, ◌++◌}
 use Rattle.std.specs.List.{AllByRecursion}
 use Rattle.warm_history.specs.Histories.{entries_of}
-use Rattle.warm_shards.specs.Shards.{shard_of}
+use Rattle.warm_visits.specs.ShardNumbers.{shard_of}
 use Rattle.warm_shards.proofs.shards_of_nodes.knows_only.Given as goal
 
 -- the entries so far are of pages of the shard

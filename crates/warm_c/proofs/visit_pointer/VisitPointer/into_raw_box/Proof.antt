@@ -5,7 +5,7 @@ use Rattle.warm_c.proofs.WalkNames.{of_opd, no_more, and_then, returns, enter, a
 use Rattle.warm_c.proofs.WalkNames.{types_at, type_at, nothing, heard, alive, Stays, stay_dropped, walk_of, Goes-blank, Ptr-Good, proved_at, leaves}
 use Rattle.warm_c.proofs.WalkNames.{Option, Some, IsSome}
 use Rattle.warm_c.proofs.PointerWordLemmas.{first, word, word_of, typed, bits_typed, opens}
-use Rattle.warm_c.specs.declared.open_visit.OpenVisit.{OpenVisit}
+use Rattle.warm_c_calls.specs.declared.open_visit.OpenVisit.{OpenVisit}
 use Rattle.warm_c.specs.contracts.visit_pointer.VisitPointer.into_raw_box.{ended, clauses, signature}
 use Rattle.warm_c.specs.contracts.visit_pointer.VisitPointer.into_raw_box.Key.{name as #self}
 use Rattle.warm_c.proofs.visit_pointer.VisitPointer.into_raw_box.Statement.{statement}

@@ -1,14 +1,9 @@
-use Rattle.std.proofs.Common.{◌≡◌, ◌<◌, List, length, sym, subst}
-use Rattle.warm_gossip.specs.State.{NodeState}
-use Rattle.warm_shards.specs.Shards.{shard_of}
-use Rattle.warm_shards.proofs.PoolCalls.{after_call}
-use Rattle.warm_shards.proofs.EngineCalls.{flushed_own}
+use Rattle.std.proofs.Common.{length}
+use Rattle.warm_shards.proofs.EngineCalls.{flushed_frames, frames_shard}
+use Rattle.warm_shards.proofs.PoolCalls.{after_call, found_below}
 use Rattle.warm_shards.proofs.shards.Shards.flush_device.Goals as goal
 
 pub invariant_of-self : goal.invariant_of-self
 invariant_of-self g c =
-    let ns = c.self.inside.nodes.items in
-    let i = c.args.shard in
-    let lt : i < length ns = subst (λ (xs : List NodeState). i < length xs) (sym c.self.view_is) c.requires.there in
-    after_call ns i c.index_mut.result.now c.flush_device.new.self c.index_mut.result.now c.self.invariant lt c.index_mut.ensures.value (λ old.
-    flushed_own (λ p. shard_of (length ns) p ≡ i) c.index_mut.result.now c.flush_device.new.self c.args.dev c.flush_device.result old.own.resident c.flush_device.ensures.asked)
+    after_call c.index_mut.result.now c.self.invariant (found_below c.self.view_is c.requires.there) c.index_mut.ensures.value (λ number latest.
+    frames_shard (length c.self.inside.nodes.items) number latest c.args.shard c.index_mut.result.now c.flush_device.new.self c.flush_device.ensures.asked.known (flushed_frames c.args.dev c.index_mut.result.now c.flush_device.new.self c.flush_device.result c.flush_device.ensures.asked))

@@ -1,23 +1,14 @@
-use Rattle.std.proofs.Common.{◌≡◌, ◌<◌, List, length, sym, ap, subst, ◌∙◌}
-use Rattle.warm_gossip.specs.State.{NodeState}
-use Rattle.warm_shards.specs.Shards.{shard_of}
-use Rattle.warm_shards.proofs.PoolCalls.{after_call}
-use Rattle.warm_shards.proofs.EngineCalls.{unzeroed_own, zeroed_own}
+use Rattle.std.proofs.Common.{length}
+use Rattle.warm_shards.proofs.EngineCalls.{asked_zeros_shard}
+use Rattle.warm_shards.proofs.PoolCalls.{after_call, found_below, found_own}
 use Rattle.warm_shards.proofs.shards.Shards.pin_zeroed.Goals as goal
 
 pub invariant_of-self : goal.invariant_of-self
 invariant_of-self g c =
-    let ns = c.self.inside.nodes.items in
-    let i = c.shard_of-shard.result in
-    let lt : i < length ns = subst (λ (xs : List NodeState). i < length xs) (sym c.self.view_is) c.shard_of-shard.ensures.below in
-    after_call ns i c.index_mut.result.now c.pin_zeroed.new.self c.index_mut.result.now c.self.invariant lt c.index_mut.ensures.value (λ old.
-    unzeroed_own (λ p. shard_of (length ns) p ≡ i) c.index_mut.result.now c.pin_zeroed.new.self c.args.page c.in_err-slot.field-0.0 old.own.resident c.pin_zeroed.ensures.known c.in_err-slot.ensures.refused)
+    after_call c.index_mut.result.now c.self.invariant (found_below c.self.view_is c.shard_of-shard.ensures.below) c.index_mut.ensures.value (λ number latest.
+    asked_zeros_shard (length c.self.inside.nodes.items) number latest c.shard_of-shard.result c.index_mut.result.now c.pin_zeroed.new.self c.args.page c.pin_zeroed.result (found_own c.args.page c.self.view_is c.shard_of-shard.ensures.value) c.pin_zeroed.ensures)
 
 pub invariant_of-self-2 : goal.invariant_of-self-2
 invariant_of-self-2 g c =
-    let ns = c.self.inside.nodes.items in
-    let i = c.shard_of-shard.result in
-    let lt : i < length ns = subst (λ (xs : List NodeState). i < length xs) (sym c.self.view_is) c.shard_of-shard.ensures.below in
-    let is : shard_of (length ns) c.args.page ≡ i = ap (λ (xs : List NodeState). shard_of (length xs) c.args.page) c.self.view_is ∙ sym c.shard_of-shard.ensures.value in
-    after_call ns i c.index_mut.result.now c.pin_zeroed.new.self c.index_mut.result.now c.self.invariant lt c.index_mut.ensures.value (λ old.
-    zeroed_own (λ p. shard_of (length ns) p ≡ i) c.index_mut.result.now c.pin_zeroed.new.self c.args.page c.in_ok-slot.slot is old.own.resident c.pin_zeroed.ensures.known c.in_ok-slot.ensures.done.pinned)
+    after_call c.index_mut.result.now c.self.invariant (found_below c.self.view_is c.shard_of-shard.ensures.below) c.index_mut.ensures.value (λ number latest.
+    asked_zeros_shard (length c.self.inside.nodes.items) number latest c.shard_of-shard.result c.index_mut.result.now c.pin_zeroed.new.self c.args.page c.pin_zeroed.result (found_own c.args.page c.self.view_is c.shard_of-shard.ensures.value) c.pin_zeroed.ensures)

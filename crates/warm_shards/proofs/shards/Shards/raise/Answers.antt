@@ -1,6 +1,7 @@
 use Rattle.std.proofs.Common.{List, subst}
 use Rattle.warm_gossip.specs.State.{NodeState}
-use Rattle.warm_shards.specs.Given.{AreGiven, at_horizon}
+use Rattle.warm_shards.specs.Given.{AreGiven}
+use Rattle.warm_visits.specs.Given.{at_horizon}
 use Rattle.warm_shards.proofs.shards.Shards.raise.Goals as goal
 
 pub returns : goal.returns

@@ -1,13 +1,10 @@
-use Rattle.std.proofs.Common.{◌<◌, List, length, sym, subst}
-use Rattle.warm_gossip.specs.State.{NodeState}
-use Rattle.warm_shards.specs.Shards.{shard_at}
-use Rattle.warm_shards.proofs.PoolCalls.{after_call, loaded_own}
+use Rattle.std.proofs.Common.{length}
+use Rattle.warm_gossip.specs.declared.call.Call.TheVariants.{WarmStep}
+use Rattle.warm_gossip.specs.declared.call.Reply.TheVariants.{Loaded}
+use Rattle.warm_shards.proofs.PoolCalls.{after_call, answered_shard, found_below}
 use Rattle.warm_shards.proofs.shards.Shards.warm_step.Goals as goal
 
 pub invariant_of-self : goal.invariant_of-self
 invariant_of-self g c =
-    let ns = c.self.inside.nodes.items in
-    let i = c.args.shard in
-    let lt : i < length ns = subst (λ (xs : List NodeState). i < length xs) (sym c.self.view_is) c.requires.there in
-    after_call ns i c.index_mut.result.now c.warm_step.new.self c.index_mut.result.now c.self.invariant lt c.index_mut.ensures.value (λ old.
-    loaded_own (length ns) (shard_at ns 0).id (shard_at ns 0).history.horizon i c.index_mut.result.now c.warm_step.new.self c.warm_step.result old c.warm_step.ensures.step)
+    after_call c.index_mut.result.now c.self.invariant (found_below c.self.view_is c.requires.there) c.index_mut.ensures.value (λ number latest.
+    answered_shard (length c.self.inside.nodes.items) number latest c.args.shard c.index_mut.result.now c.warm_step.new.self WarmStep (λ p. Loaded p) c.warm_step.result tt tt c.warm_step.ensures.step)

@@ -1,11 +1,10 @@
-use Rattle.std.proofs.Common.{◌≡◌, length, arith}
-use Rattle.warm_shards.specs.Shards.{shard_of}
-use Rattle.warm_shards.proofs.PoolCalls.{after_call, written_own}
+use Rattle.std.proofs.Common.{length, arith}
+use Rattle.warm_gossip.specs.declared.call.Call.TheVariants.{Write}
+use Rattle.warm_gossip.specs.Clauses.{done}
+use Rattle.warm_shards.proofs.PoolCalls.{after_call, answered_shard}
 use Rattle.warm_shards.proofs.shards.Shards.write.Goals as goal
 
 pub invariant_of-self : goal.invariant_of-self
 invariant_of-self g c =
-    let ns = c.self.inside.nodes.items in
-    let i = c.args.slot.shard in
-    after_call ns i c.index_mut.result.now c.write.new.self c.index_mut.result.now c.self.invariant (omega (arith, c.self.inside.nodes.ok.0, c.len.ensures)) c.index_mut.ensures.value (λ old.
-    written_own (λ p. shard_of (length ns) p ≡ i) c.index_mut.result.now c.write.new.self c.args.slot.slot c.args.at c.args.bytes.now c.write.result old.own.resident c.write.ensures.step)
+    after_call c.index_mut.result.now c.self.invariant (omega (arith, c.self.inside.nodes.ok.0, c.len.ensures)) c.index_mut.ensures.value (λ number latest.
+    answered_shard (length c.self.inside.nodes.items) number latest c.args.slot.shard c.index_mut.result.now c.write.new.self (Write c.args.slot.slot c.args.at c.args.bytes.now) done c.write.result tt tt c.write.ensures.step)

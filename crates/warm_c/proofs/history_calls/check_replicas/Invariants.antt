@@ -1,7 +1,0 @@
-use Rattle.std.proofs.Common.{take}
-use Rattle.warm_c.specs.Calls.{AreOfReplicas}
-use Rattle.warm_c.proofs.history_calls.check_replicas.Given as goal
-
--- the references so far are of replicas
-abbrev pub invariant-loop-reference : goal.invariant-loop-reference
-invariant-loop-reference l = AreOfReplicas (take l.reference-index l.batch)

@@ -1,0 +1,4 @@
+pub mod BoolLemmas
+pub mod EngineRefusals
+pub mod FilledPinLemmas
+pub mod ListLemmas

@@ -1,0 +1,10 @@
+pub mod Calls
+pub mod CountCalls
+pub mod Devices
+pub mod Engine
+pub mod FilledPins
+pub mod LentBytes
+pub mod MessageLimits
+pub mod Opening
+pub mod Since
+pub mod Visits

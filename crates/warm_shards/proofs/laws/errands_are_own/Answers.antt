@@ -1,5 +1,0 @@
-use Rattle.warm_shards.proofs.VisitErrands.{errands_are_own}
-use Rattle.warm_shards.proofs.laws.errands_are_own.Goals as goal
-
-pub returns : goal.returns
-returns c = errands_are_own

@@ -1,5 +1,0 @@
-use Rattle.warm_shards.proofs.VisitMessageLemmas.{taken_are_the_answer}
-use Rattle.warm_shards.proofs.laws.taken_are_the_answer.Goals as goal
-
-pub returns : goal.returns
-returns c = taken_are_the_answer

@@ -1,0 +1,17 @@
+pub mod Lists
+pub mod PartLemmas
+pub mod PartListLemmas
+pub mod GivenLemmas
+pub mod PartEntryLemmas
+pub mod ErrandLemmas
+pub mod PlanGiven
+pub mod VisitExamples
+pub mod VisitMessageLemmas
+pub mod VisitReadsPortions
+pub mod VisitErrands
+pub mod VisitReadsSending
+pub mod VisitPlans
+pub mod VisitEntries
+pub mod VisitReadsTasks
+pub mod VisitGiven
+pub mod VisitReadsMessages

@@ -1,0 +1,10 @@
+pub mod ShardNumbers
+pub mod Parts
+pub mod Digests
+pub mod Given
+pub mod Visits
+pub mod Plans
+pub mod VisitReads
+pub mod VisitParts
+pub mod VisitMessages
+pub mod Laws
