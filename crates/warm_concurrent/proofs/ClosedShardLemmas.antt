@@ -28,6 +28,8 @@ use Rattle.warm_concurrent.proofs.ReferenceSetLemmas.{union_none}
 -- ---- what a call gave, and what it gave the node
 
 foreign_gave : (c : ShardCall) → gave_call c Foreign ≡ set_of_list []
+foreign_gave (Raise time) = refl
+foreign_gave (Enter count number v) = refl
 foreign_gave c = refl
 
 call_gave : (S : ReferenceSet) (by : ℕ) (c : ShardCall) (r : ShardReply)

@@ -77,7 +77,9 @@ impl<D: PageDevice + Send> SharedShards<D> {
             attached.old.passes attached.new.passes) }
         ensures pins { attached.new.pins ≡ attached.old.pins }
     {
-        let visit = Visit::copy(alloc, self.id(), self.count());
+        let Ok(visit) = Visit::copy(alloc, self.id(), self.count()) else {
+            return Err(Stopped::before_all());
+        };
         let after = self.go_through(rt, attached, visit)?;
         let Some(copy) = after.into_copy() else {
             unreachable!()

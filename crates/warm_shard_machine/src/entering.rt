@@ -20,7 +20,7 @@ pub struct Entering {
     /// Where the errand is.
     pub place: Place,
     /// The visit, which must name the shard of that number next.
-    pub visit: warm_shards::Visit,
+    pub visit: warm_visits::Visit,
 }
 
 impl<D: PageDevice + Send> Visit<Shard<D>> for Entering {
@@ -29,7 +29,7 @@ impl<D: PageDevice + Send> Visit<Shard<D>> for Entering {
     ghost use Rattle.warm_shard_machine.specs.Visits.{EntersAs};
     ghost use Rattle.warm_shard_machine.specs.declared.calls.ShardCall.TheVariants.{Enter};
 
-    type Output = Option<warm_shards::Visit>;
+    type Output = Option<warm_visits::Visit>;
 
     ghost ready = { λ v. IsNextAt v.place.count v.place.number v.visit };
 
@@ -39,7 +39,7 @@ impl<D: PageDevice + Send> Visit<Shard<D>> for Entering {
     fn visit(
         self,
         shard: &mut Shard<D>,
-    ) -> Visited<ShardCall, ShardReply, Option<warm_shards::Visit>> {
+    ) -> Visited<ShardCall, ShardReply, Option<warm_visits::Visit>> {
         let Entering { place, visit } = self;
         shard.enter(place, visit)
     }
@@ -50,8 +50,8 @@ impl<D: PageDevice> Shard<D> {
     fn enter(
         &mut self,
         place: Place,
-        mut visit: warm_shards::Visit,
-    ) -> Visited<ShardCall, ShardReply, Option<warm_shards::Visit>>
+        mut visit: warm_visits::Visit,
+    ) -> Visited<ShardCall, ShardReply, Option<warm_visits::Visit>>
         requires { IsNextAt place.count place.number visit }
         ensures call { result.made.call.value ≡ Enter place.count place.number visit }
         ensures reply { EntersAs visit result.output result.made.reply.value }
