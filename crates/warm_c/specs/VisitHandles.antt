@@ -12,7 +12,7 @@ use Rattle.warm_c_calls.specs.declared.open_node.OpenNode.{OpenNode}
 use Rattle.warm_c_calls.specs.declared.open_visit.OpenVisit.{OpenVisit}
 use Rattle.warm_c_calls.specs.Visits.{EntersIf, wanted_shard}
 
--- why there are no visits of this replica in so many shards; an allocation may fail
+-- why there are no visits of this replica in this many shards; an allocation may fail
 abbrev pub VisitsRefused : ℕ → ℕ → Refusal → Type 0
 VisitsRefused replica shards BadReplica = IsReplica replica → ⊥
 VisitsRefused replica shards BadShards = IsReplica replica × (IsShardCount shards → ⊥)

@@ -1,7 +1,7 @@
 //! The functions that C calls for a call of a whole replica: a visit, which names the shard that it
 //! wants next, and is let in there. `c/nodes.h` has their prototypes.
 //!
-//! An open handle has one visit after the other, of one replica in so many shards. Between two of
+//! An open handle has one visit after the other, of one replica in its shards. Between two of
 //! them it is idle: it names no shard, and has made nothing.
 ghost use Rattle.std.specs.Prelude.{◌≡◌, Bool, None, Some};
 ghost use Rattle.warm_visits.specs.Visits.{copy_visit, offer_visit, raise_visit};
@@ -24,7 +24,7 @@ use warm_gossip::NodeFault;
 use warm_visits::{Visit, is_shard_count};
 use warm_stamps::ReplicaId;
 
-/// Opens a closed handle of visits of this replica, in so many shards. Its visit is idle.
+/// Opens a closed handle of visits of this replica, in this many shards. Its visit is idle.
 ///
 /// # Errors
 /// In this order. After 65 the handle is unchanged; after any other it is closed.

@@ -11,7 +11,7 @@ use Rattle.warm_c_calls.specs.declared.message_limits.NodeLimits.{NodeLimits}
 abbrev pub KeepsTimes : NodeLimits → Message → Type 0
 KeepsTimes limits message = SpeaksBy limits.time message × (horizon_in message ≤ limits.horizon)
 
--- there are no entries, or with so many pages more the history would know no more than the limit
+-- there are no entries, or with as many pages more the history would know no more than the limit
 abbrev pub HasRoom : NodeLimits → ℕ → Type 0
 HasRoom limits entries = (entries ≡ 0) ⊎ (limits.known + entries ≤ limits.pages)
 

@@ -21,7 +21,7 @@ pub struct NodeLimits {
     pub known: usize,
 }
 
-// Whether there is room for so many entries, each of which may be of a new page.
+// Whether there is room for this many entries, each of which may be of a new page.
 fn has_room(limits: &NodeLimits, entries: usize) -> bool
     ensures { IsTrue result ↔ HasRoom limits.now entries }
 {

@@ -5,7 +5,7 @@ use Rattle.warm_frames.specs.declared.message.Message.TheVariants.{Digest}
 use Rattle.warm_visits.specs.Visits.{After, Errand, Made, VisitState, answered, begun}
 use Rattle.warm_visits.specs.Visits.{ends, gathered, raised, requests}
 
--- a visit of a replica in so many shards that has nothing to do: it raises none of them
+-- a visit of a replica in this many shards that has nothing to do: it raises none of them
 abbrev pub idle_visit : ℕ → ℕ → VisitState
 idle_visit id count = begun id count [] (raised None) ends
 

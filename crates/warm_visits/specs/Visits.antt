@@ -71,7 +71,7 @@ pub data After : Type 0 where
   compares : List (List ℕ) → After
   requests : Message → After
 
--- A visit of a replica of this number, in so many shards. If a shard has refused its errand, the
+-- A visit of a replica of this number, in this many shards. If a shard has refused its errand, the
 -- visit is stopped, and the errand is still the next one.
 pub record VisitState : Type 0 where
   pub id : ℕ

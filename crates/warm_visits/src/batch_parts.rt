@@ -56,7 +56,7 @@ fn sizes_of<T: NamesPage>(items: &[T], count: usize) -> [usize; BUCKETS as usize
     sizes
 }
 
-// As many empty lists, with room for so many items.
+// An empty list for each shard, with room for its items.
 fn empty_parts<T: NamesPage + Copy>(
     alloc: Global,
     count: usize,
