@@ -21,8 +21,8 @@ use std::mem::swap;
 use warm_c_base::{Descriptor, Refusal, WarmPage, WarmReference, status_of};
 use warm_c_calls::{NodeLimits, OpenVisit};
 use warm_gossip::NodeFault;
-use warm_visits::{Visit, is_shard_count};
 use warm_stamps::ReplicaId;
+use warm_visits::{Visit, is_shard_count};
 
 /// Opens a closed handle of visits of this replica, in this many shards. Its visit is idle.
 ///

@@ -18,9 +18,9 @@ use warm_devices::PageDevice;
 use warm_frames::{BoxedMessage, DIGEST_SIZE, DigestTable, Message, MessageList};
 use warm_gossip::NodeFault;
 use warm_shard_machine::{Shard, ShardCall, ShardReply};
-use warm_visits::fill_digests;
 use warm_stamps::{BUCKETS, Bucket, BucketSet, ReplicaId};
 use warm_turn::{Pass, Turn};
+use warm_visits::fill_digests;
 
 /// What a shard offers, or all shards together.
 #[derive(Drop)]

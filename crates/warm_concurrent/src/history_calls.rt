@@ -17,9 +17,9 @@ use std::sync::Wait;
 use warm_devices::PageDevice;
 use warm_gossip::NodeFault;
 use warm_shard_machine::{Shard, ShardCall, ShardReply};
-use warm_visits::parts_of;
 use warm_stamps::{PageList, RefList, Reference};
 use warm_turn::{Pass, Turn};
+use warm_visits::parts_of;
 
 /// Where a call of the whole stopped, and why: the shards before this one have made their part of
 /// it. This one has not, nor have those after it.

@@ -26,9 +26,9 @@ use warm_gossip::{Node, NodeFault};
 use warm_history::Entry;
 use warm_peer::SentPortion;
 use warm_pool::{NamesPage, Slot};
-use warm_visits::shard_of;
 use warm_stamps::{BUCKETS, Bucket, BucketSet, ByteList, Items, PageId};
 use warm_turn::Machine;
+use warm_visits::shard_of;
 
 /// One shard of a replica: a node, how many shards there are, and which of them it is.
 ///

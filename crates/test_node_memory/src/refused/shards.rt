@@ -7,8 +7,8 @@ use warm_devices::MemDevice;
 use warm_frames::Message;
 use warm_gossip::NodeFault;
 use warm_shards::Shards;
-use warm_visits::{is_shard_count, parts_of};
 use warm_stamps::Bucket;
+use warm_visits::{is_shard_count, parts_of};
 
 pub(crate) type TwoShards = Shards<MemDevice>;
 
