@@ -62,7 +62,7 @@ fn exchanged<R: Wait + Abort>(
     requires { (AreOf one.now here.old.passes) × (AreOf two.now there.old.passes) }
     ensures { (AreOf one.now here.new.passes) × (AreOf two.now there.new.passes) }
 {
-    let Ok(offer) = one.offer(rt, here) else {
+    let Ok(offer) = one.offer(rt, alloc, here) else {
         return None;
     };
     let Ok(first) = two.receive(rt, alloc, there, &offer) else {
@@ -84,7 +84,7 @@ fn offered<R: Wait + Abort>(
     requires { AreOf shared.now attached.old.passes }
     ensures { AreOf shared.now attached.new.passes }
 {
-    let offer = shared.offer(rt, attached);
+    let offer = shared.offer(rt, alloc, attached);
     let offer = offer.ok().expect(rt, "memory for digests");
     bytes_of(rt, alloc, &from_first(rt, offer))
 }

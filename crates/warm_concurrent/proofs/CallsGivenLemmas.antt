@@ -1,38 +1,39 @@
 -- What one call of one shard gave, and what calls of all shards gave that stopped at one.
-use Rattle.std.proofs.Common.{◌≡◌, ◌≢◌, inl, inr, ℕ, zero, suc, ◌<◌, ◌≤◌, Bool, true, false, cond, List, [], length, refl, sym, ap, subst, ◌∙◌, arith, append-nil}
-use Rattle.std.specs.Prelude.{nat_eq, nat_lt, slice_index_or}
+use Rattle.std.proofs.Common.{◌≡◌, ◌≢◌, inl, inr, ℕ, zero, suc, ◌<◌, ◌≤◌, Bool, true, false, cond, List, [], ◌++◌, length, refl, sym, ap, subst, ◌∙◌, arith}
+use Rattle.std.specs.Prelude.{Some, nat_eq, nat_lt}
 use Rattle.std.proofs.lemmas.Bool.{cases_eq, eq-eqb, eqb-true, le-ltb, lt-ltb, ltb-true, ne_eqb}
-use Rattle.std.proofs.lemmas.List.{get_or-set_other, length-set}
 use Rattle.warm_stamps.specs.declared.Reference.{Reference}
 use Rattle.warm_history.specs.ReferenceSets.{ReferenceSet, set_of_list, ◌∪◌}
 use Rattle.warm_history.specs.References.{IsIn}
 use Rattle.warm_history.specs.Histories.{references_of}
-use Rattle.warm_turn.specs.CallHistories.{as_spent}
-use Rattle.warm_peer.specs.Answers.{refs_in}
-use Rattle.warm_visits.specs.Parts.{part_of_batch}
-use Rattle.warm_visits.specs.ShardNumbers.{of_first_shards, of_shard, shard_of}
-use Rattle.warm_visits.proofs.Lists.{from_filter, in_both, in_filter, in_first, in_second}
-use Rattle.warm_shard_machine.specs.declared.calls.ShardCall.{ShardCall}
-use Rattle.warm_shard_machine.specs.declared.calls.ShardCall.TheVariants.{Absorb, Answer, CopyHistory, Offer, Raise, TakeIn}
-use Rattle.warm_shard_machine.specs.declared.calls.ShardReply.{ShardReply}
-use Rattle.warm_shard_machine.specs.declared.calls.ShardReply.TheVariants.{Copied, Done, Refused}
 use Rattle.warm_frames.specs.declared.message.Message.{Message}
 use Rattle.warm_frames.specs.declared.message.Message.TheVariants.{Entries, Digest, Want}
 use Rattle.warm_gossip.specs.declared.fault.NodeFault.{NodeFault}
-use Rattle.warm_concurrent.specs.declared.gossip.NotReceived.{NotReceived}
-use Rattle.warm_concurrent.specs.declared.gossip.NotReceived.TheVariants.{Answering, Comparing, Raising, Taking}
+use Rattle.warm_gossip.specs.declared.fault.NodeFault.TheVariants.{Memory}
+use Rattle.warm_peer.specs.Answers.{refs_in, requested_buckets}
+use Rattle.warm_visits.specs.ShardNumbers.{IsShardCount, of_first_shards, of_shard, shard_of}
+use Rattle.warm_visits.specs.Visits.{Errand, VisitState, absorb_visit, at_each, copy_visit, copying, give_plan, join_visit, next_shard, offer_visit, offering, raise_plan, receive_visit, send_plan}
+use Rattle.warm_visits.proofs.ErrandLemmas.{some_count}
+use Rattle.warm_visits.proofs.Lists.{from_filter, in_both, in_filter, in_first, in_second}
+use Rattle.warm_shard_machine.specs.declared.calls.ShardCall.{ShardCall}
+use Rattle.warm_shard_machine.specs.declared.calls.ShardCall.TheVariants.{Enter, Raise}
+use Rattle.warm_shard_machine.specs.declared.calls.ShardReply.{ShardReply}
+use Rattle.warm_shard_machine.specs.declared.calls.ShardReply.TheVariants.{Done, Entered, Refused}
+use Rattle.warm_shard_machine.specs.Entering.{gave_first}
 use Rattle.warm_concurrent.specs.declared.fault.SharedFault.{SharedFault}
 use Rattle.warm_concurrent.specs.declared.fault.SharedFault.TheVariants.{Node, TurnsSpent}
-use Rattle.warm_concurrent.specs.Attached.{KeepsOtherPasses, Known, ShardPass, no_pass, shard_pass}
+use Rattle.warm_concurrent.specs.Attached.{ShardPass, shard_pass}
 use Rattle.warm_concurrent.specs.Clauses.{AnsweredByShard, CallFails}
-use Rattle.warm_concurrent.specs.Copying.{GivesCopy, no_history}
-use Rattle.warm_concurrent.specs.Given.{HasGiven, HasGivenNothing, SameGiven, ThreadsGive, gave_call, given_to_first, only_horizon, shards_given}
-use Rattle.warm_concurrent.specs.Answering.{AnswerFails, AnswersPart, OfferFails, Offers, offer_at, offer_reply}
-use Rattle.warm_concurrent.specs.Gossip.{DigestsStop, ReceiveStops, RequestStops}
-use Rattle.warm_concurrent.specs.Whole.{AbsorbFails, Does, RaiseFails, RaisesFirst, TakeFails, history_message, part_call}
-use Rattle.warm_concurrent.proofs.GivenLemmas.{EachGives, Gives, absorbed_each, all_given, answer_gives, as_given, gathered_each, given_as, given_by_sum, given_none, given_then, gives_as, gives_called, gives_none, message_each, none_twice, raised_each, taken_each}
+use Rattle.warm_concurrent.specs.Given.{HasGiven, HasGivenNothing, HasGivenUpTo, SameGiven, ThreadsGive, gave_call, gave_together, given_to_first, only_horizon}
+use Rattle.warm_concurrent.specs.Visiting.{EntryFails, IsGoneThrough, VisitFails, VisitStops, as_stopped, visiting}
+use Rattle.warm_concurrent.specs.Whole.{Does, RaiseFails}
+use Rattle.warm_concurrent.proofs.GivenLemmas.{EachGives, Gives, all_given, as_given, given_as, given_by_sum, given_none, given_then, gives_as, gives_called, gives_none, gives_spent, nothing, one_nothing, other_same, raised_each}
+use Rattle.warm_concurrent.proofs.EntryLemmas.{names_next}
 use Rattle.warm_concurrent.proofs.LawLemmas.{below}
+use Rattle.warm_concurrent.proofs.RaisedLemmas.{RisenAll, all_both, all_risen, both_parts, parts_then, raises, risen_read}
+use Rattle.warm_concurrent.proofs.ReadLemmas.{AsksNone, asks_each, asks_sends, reads_nothing}
 use Rattle.warm_concurrent.proofs.ReferenceSetLemmas.{none_union, same_self, sum, union_none}
+use Rattle.warm_concurrent.proofs.VisitedLemmas.{PartGave, batch_given, gave_refused, part_gave}
 
 -- ---- calls of one shard
 
@@ -66,12 +67,6 @@ sum_one i G (suc k) lt = elim (cases_eq i k) [
       (λ t. one t ∪ last t) ∙ union_none G
 ]
 
--- the other passes are as they were
-other_same : (old new : List ShardPass) (i j : ℕ) → KeepsOtherPasses old i new → j ≢ i
-    → shard_pass new j ≡ shard_pass old j
-other_same old new i j others other =
-    ap (λ (ps : List ShardPass). shard_pass ps j) others ∙ get_or-set_other old i j (shard_pass new i) no_pass other
-
 called_given : (old new : List ShardPass) (i : ℕ) (c : ShardCall) (r : ShardReply) → i < length old
     → AnsweredByShard old i c r new → HasGiven (gave_call c r) old new
 called_given old new i c r lt answered =
@@ -87,33 +82,6 @@ called_given old new i c r lt answered =
 
 -- ---- a call that gave nothing
 
-gives_spent : (old new : ShardPass) → new.view ≡ as_spent old.view → Gives (set_of_list []) old new
-gives_spent old new is = (
-  [],
-  record {
-    number = ap (λ (v : Known). v.number) is;
-    mine = ap (λ (v : Known). v.mine) is ∙ sym (append-nil old.view.mine);
-  },
-  refl,
-)
-
--- what no shard gave
-abbrev pub nothing : ℕ → ReferenceSet
-nothing i = set_of_list []
-
--- if one shard gave nothing, and the others were not called
-one_nothing : (old new : List ShardPass) (i : ℕ) → i < length old → KeepsOtherPasses old i new
-    → Gives (set_of_list []) (shard_pass old i) (shard_pass new i)
-    → EachGives nothing (length old) old new
-one_nothing old new i lt others gives = record {
-  count = ap length others ∙ length-set old i (shard_pass new i);
-  first = λ j less. elim (cases_eq j i) [
-    | inl same ↦ subst (λ (n : ℕ). Gives (set_of_list []) (shard_pass old n) (shard_pass new n)) (sym same) gives
-    | inr other ↦ gives_none (shard_pass old j) (shard_pass new j) (other_same old new i j others other)
-  ];
-  others = λ j le. other_same old new i j others (λ e. omega (arith, e, le, lt));
-}
-
 -- so of a call that is refused, or finds no ticket
 fails_each : (old new : List ShardPass) (i : ℕ) (c : ShardCall) (why : SharedFault)
     → ((w : NodeFault) → gave_call c (Refused w) ≡ set_of_list []) → i < length old
@@ -124,11 +92,9 @@ fails_each old new i c TurnsSpent none lt fails = one_nothing old new i lt fails
 fails_each old new i c why none lt fails = absurd fails
 
 -- a call that is refused gave nothing
-gave_refused : (c : ShardCall) (w : NodeFault) → gave_call c (Refused w) ≡ set_of_list []
-gave_refused (Absorb batch) w = refl
-gave_refused (Raise time) w = refl
-gave_refused (TakeIn horizon es) w = refl
-gave_refused c w = refl
+gave_none : (c : ShardCall) (w : NodeFault) → gave_call c (Refused w) ≡ set_of_list []
+gave_none (Raise time) w = refl
+gave_none c w = refl
 
 sum_nothing : (n : ℕ) → sum nothing n ≡ set_of_list []
 sum_nothing zero = refl
@@ -232,17 +198,21 @@ parts_are count (suc k) S (suc n) le = record {
   back = λ r here. below_back count (suc k) S (suc n) r le here;
 }
 
--- the first k shards have their parts, and the others none
-first_parts : (S : ReferenceSet) (k : ℕ) (old new : List ShardPass) → k ≤ length old
-    → EachGives (λ i. of_shard (length old) i S) k old new
-    → EachGives (parts_below (length old) k S) (length old) old new
-first_parts S k old new le given =
-    let T = parts_below (length old) k S in
+-- the first k shards were given their sets, and the others nothing
+first_of : (T : ℕ → ReferenceSet) (k : ℕ) (old new : List ShardPass) → k ≤ length old
+    → EachGives T k old new
+    → EachGives (λ i. cond (nat_lt i k) (T i) (set_of_list [])) (length old) old new
+first_of T k old new le given =
+    let U : ℕ → ReferenceSet = λ i. cond (nat_lt i k) (T i) (set_of_list []) in
     record {
       count = given.count;
       first = λ i lt. elim (below i k) [
-        | inl low ↦ gives_as (of_shard (length old) i S) (T i) (shard_pass old i) (shard_pass new i) (sym (part_below (length old) k S i low)) (given.first i low)
-        | inr high ↦ gives_as (set_of_list []) (T i) (shard_pass old i) (shard_pass new i) (sym (part_above (length old) k S i high)) (gives_none (shard_pass old i) (shard_pass new i) (given.others i high))
+        | inl low ↦
+            let is : U i ≡ T i = ap (λ b. cond b (T i) (set_of_list [])) (lt-ltb i k low) in
+            gives_as (T i) (U i) (shard_pass old i) (shard_pass new i) (sym is) (given.first i low)
+        | inr high ↦
+            let is : U i ≡ set_of_list [] = ap (λ b. cond b (T i) (set_of_list [])) (le-ltb i k high) in
+            gives_as (set_of_list []) (U i) (shard_pass old i) (shard_pass new i) (sym is) (gives_none (shard_pass old i) (shard_pass new i) (given.others i high))
       ];
       others = λ i high. given.others i (omega (arith, high, le));
     }
@@ -255,7 +225,7 @@ stopped S k old mid new le given none =
     let count = length old in
     let T = parts_below count k S in
     let rest : EachGives nothing count mid new = subst (λ (n : ℕ). EachGives nothing n mid new) given.count none in
-    let all = given_as (λ i. T i ∪ set_of_list []) T count old new (λ i. union_none (T i)) (given_then T nothing count old mid new (first_parts S k old mid le given) rest) in
+    let all = given_as (λ i. T i ∪ set_of_list []) T count old new (λ i. union_none (T i)) (given_then T nothing count old mid new (first_of (λ i. of_shard count i S) k old mid le given) rest) in
     given_by_sum T (given_to_first count k S) old new all.first (parts_are count k S count le)
 
 -- ---- calls of all shards that stop
@@ -264,16 +234,32 @@ no_parts : (S : ReferenceSet) (old : List ShardPass)
     → EachGives (λ i. of_shard (length old) i S) 0 old old
 no_parts S old = record { count = refl; first = λ i lt. absurd (omega (arith, lt)); others = λ i le. refl }
 
-batch_stopped : (batch : List Reference) (k : ℕ) (why : SharedFault) (old new : List ShardPass)
-    → AbsorbFails batch k why old new
+-- an entry that fails gave nothing
+entry_nothing : (v : VisitState) (k : ℕ) (why : SharedFault) (old new : List ShardPass)
+    → k < length old → EntryFails v k why old new → EachGives nothing (length old) old new
+entry_nothing v k (Node Memory) old new lt fails =
+    one_nothing old new k lt fails.1
+    (gives_as (gave_first v.plan true) (set_of_list []) (shard_pass old k) (shard_pass new k) (gave_refused v.plan) (gives_called (shard_pass old k) (shard_pass new k) (Enter (length old) k v) (Entered (as_stopped v)) fails.0))
+entry_nothing v k TurnsSpent old new lt fails = one_nothing old new k lt fails.1 (gives_spent (shard_pass old k) (shard_pass new k) fails.0)
+entry_nothing v k why old new lt fails = absurd fails
+
+batch_given_all : (id : ℕ) (batch : List Reference) (old new : List ShardPass)
+    → IsShardCount (length old) → IsGoneThrough (absorb_visit id (length old) batch) old new
+    → HasGiven (set_of_list batch) old new
+batch_given_all id batch old new count (w, gone) =
+    all_given (set_of_list batch) old new count (batch_given old new (absorb_visit id (length old) batch) w batch (length old) gone.goes refl gone.well (inr (gone.over, refl)))
+
+batch_stopped : (id : ℕ) (batch : List Reference) (k : ℕ) (why : SharedFault)
+    (old new : List ShardPass) → VisitFails (absorb_visit id (length old) batch) k why old new
     → HasGiven (given_to_first (length old) k (set_of_list batch)) old new
-batch_stopped batch k why old new (inl none) =
+batch_stopped id batch k why old new (inl none) =
     let S = set_of_list batch in
     subst (λ (n : ℕ). HasGiven (given_to_first (length old) n S) old new) (sym none.0)
     (stopped S 0 old old new (omega arith) (no_parts S old) (given_none (length old) old new none.2))
-batch_stopped batch k why old new (inr (mid, lt, part, absorbed, fails)) =
-    stopped (set_of_list batch) k old mid new (omega (arith, lt)) (absorbed_each batch k old mid absorbed)
-    (fails_each mid new k (Absorb (part_of_batch (length old) k batch)) why (λ w. refl) (omega (arith, lt, absorbed.count)) fails)
+batch_stopped id batch k why old new (inr (w, stops)) =
+    let well : w.stopped ≡ false = names_next w.stopped w.plan k (sym stops.next) in
+    let given = batch_given old stops.mid (absorb_visit id (length old) batch) w batch k stops.goes refl well (inl stops.next) in
+    stopped (set_of_list batch) k old stops.mid new (omega (arith, stops.there, given.count)) given (entry_nothing w k why stops.mid new stops.there stops.fails)
 
 raise_stopped : (time k : ℕ) (why : SharedFault) (old new : List ShardPass)
     → RaiseFails time k why old new
@@ -282,95 +268,202 @@ raise_stopped time k why old new (mid, lt, raised, fails) =
     stopped (only_horizon time) k old mid new (omega (arith, lt)) (raised_each time k old mid raised)
     (fails_each mid new k (Raise time) why (λ w. refl) (omega (arith, lt, raised.count)) fails)
 
-take_stopped : (message : Message) (k : ℕ) (why : SharedFault) (old new : List ShardPass)
-    → TakeFails message k why old new
-    → HasGiven (given_to_first (length old) k (refs_in message)) old new
-take_stopped message k why old new (mid, lt, taken, inl none) =
-    stopped (refs_in message) k old mid new (omega (arith, lt)) (taken_each message k old mid taken) (given_none (length mid) mid new none.1)
-take_stopped message k why old new (mid, lt, taken, inr fails) =
-    stopped (refs_in message) k old mid new (omega (arith, lt)) (taken_each message k old mid taken)
-    (fails_each mid new k (part_call (length old) message k) why (λ w. refl) (omega (arith, lt, taken.count)) fails)
+-- ---- visits that raise first
 
--- after all shards are raised, and nothing more is given
-after_raise : (time : ℕ) (old mid new : List ShardPass) → RaisesFirst time (length old) old mid
-    → EachGives nothing (length mid) mid new
-    → HasGiven (given_to_first (length old) (length old) (only_horizon time)) old new
-after_raise time old mid new raised none =
-    stopped (only_horizon time) (length old) old mid new (omega arith) (raised_each time (length old) old mid raised) none
-
--- some shards gave nothing, and the others were not called
-some_nothing : (k : ℕ) (old new : List ShardPass) → k ≤ length old → EachGives nothing k old new
-    → EachGives nothing (length old) old new
-some_nothing k old new le given = record {
-  count = given.count;
-  first = λ i lt. elim (below i k) [
-    | inl low ↦ given.first i low
-    | inr high ↦ gives_none (shard_pass old i) (shard_pass new i) (given.others i high)
-  ];
-  others = λ i high. given.others i (omega (arith, high, le));
+same_trans : (S T U : ReferenceSet) → SameGiven S T → SameGiven T U → SameGiven S U
+same_trans S T U one other = record {
+  horizon = one.horizon ∙ other.horizon;
+  there = λ r here. other.there r (one.there r here);
+  back = λ r here. one.back r (other.back r here);
 }
 
-offer_nothing : (k : ℕ) (why : SharedFault) (old new : List ShardPass) → OfferFails k why old new
-    → EachGives nothing (length old) old new
-offer_nothing k why old new (offers, mid, lt, so, fails) =
-    none_twice old mid new
-    (some_nothing k old mid (omega (arith, lt)) (as_given (λ i. Offers (offer_at offers i) i) nothing k old mid (λ i p q r. gives_called p q Offer (offer_reply (offer_at offers i)) r) so.1))
-    (fails_each mid new k Offer why (λ w. refl) (omega (arith, lt, so.1.count)) fails)
+first_horizon : (count k : ℕ) (S : ReferenceSet) → (given_to_first count k S).horizon ≤ S.horizon
+first_horizon count zero S = omega arith
+first_horizon count (suc k) S = omega arith
 
-answer_nothing : (request k : ℕ) (why : SharedFault) (old new : List ShardPass)
-    → AnswerFails request k why old new → EachGives nothing (length old) old new
-answer_nothing request k why old new (parts, mid, so, either) =
-    let gave_none = as_given (λ i. AnswersPart (length old) request (slice_index_or parts i []) i) nothing k old mid (λ i. answer_gives (length old) request (slice_index_or parts i []) i) so.1 in
-    elim either [
-      | inl none ↦ none_twice old mid new (some_nothing k old mid none.0 gave_none) (given_none (length mid) mid new none.2)
-      | inr some ↦
-          none_twice old mid new (some_nothing k old mid (omega (arith, some.1)) gave_none)
-          (fails_each mid new k (Answer some.0) why (λ w. refl) (omega (arith, some.1, so.1.count)) some.4)
+module _ (count k : ℕ) (S : ReferenceSet) where
+  -- the parts below k, and the horizon for the others
+  abbrev RaisedBelow : ℕ → ReferenceSet
+  RaisedBelow i = cond (nat_lt i k) (of_shard count i S) (only_horizon S.horizon)
+
+  at_time : (i : ℕ) → (RaisedBelow i).horizon ≡ S.horizon
+  at_time i = cases (nat_lt i k) refl
+    where
+      cases : (b : Bool) → nat_lt i k ≡ b → (RaisedBelow i).horizon ≡ S.horizon
+      cases true is = rw is refl
+      cases false is = rw is refl
+
+  as_given_below : (i : ℕ) → (RaisedBelow i).given ≡ (parts_below count k S i).given
+  as_given_below i = cases (nat_lt i k) refl
+    where
+      cases : (b : Bool) → nat_lt i k ≡ b → (RaisedBelow i).given ≡ (parts_below count k S i).given
+      cases true is = rw is refl
+      cases false is = rw is refl
+
+  all_at_time : (n : ℕ) → (sum RaisedBelow (suc n)).horizon ≡ S.horizon
+  all_at_time zero = omega (arith, at_time 0)
+  all_at_time (suc n) = omega (arith, all_at_time n, at_time (suc n))
+
+  all_given_below : (n : ℕ) → (sum RaisedBelow n).given ≡ (sum (parts_below count k S) n).given
+  all_given_below zero = refl
+  all_given_below (suc n) =
+      let one = all_given_below n in
+      let last = as_given_below n in
+      λ i. one i ++ last i
+
+  -- together they are the horizon, and the parts below k
+  raised_are : (n : ℕ) → 0 < n → k ≤ n
+      → SameGiven (sum RaisedBelow n) (only_horizon S.horizon ∪ given_to_first count k S)
+  raised_are zero some le = absurd (omega (arith, some))
+  raised_are (suc n) some le =
+      let are = parts_are count k S (suc n) le in
+      let is = all_given_below (suc n) in
+      record {
+        horizon = omega (arith, all_at_time n, first_horizon count k S);
+        there = λ r here. are.there r (subst (λ (rs : List Reference). IsIn r rs) is here);
+        back = λ r here. subst (λ (rs : List Reference). IsIn r rs) (sym is) (are.back r here);
+      }
+
+  -- what a shard was given so
+  below_is : (i : ℕ) → (only_horizon S.horizon ∪ cond (nat_lt i k) (part_gave (of_shard count i S) (of_shard count i S).given) (set_of_list [])) ∪ set_of_list []
+      ≡ RaisedBelow i
+  below_is i =
+      union_none (only_horizon S.horizon ∪ cond (nat_lt i k) (part_gave (of_shard count i S) (of_shard count i S).given) (set_of_list []))
+      ∙ cases (nat_lt i k)
+    where
+      cases : (b : Bool) → only_horizon S.horizon ∪ cond b (part_gave (of_shard count i S) (of_shard count i S).given) (set_of_list [])
+          ≡ cond b (of_shard count i S) (only_horizon S.horizon)
+      cases true = both_parts S.horizon (of_shard count i S) refl
+      cases false = union_none (only_horizon S.horizon)
+
+-- a visit that stops after it has raised all shards
+parts_up_to : (S : ReferenceSet) (k : ℕ) (why : SharedFault) (old new : List ShardPass)
+    (v w : VisitState) → IsShardCount (length old) → (stops : VisitStops v w k why old new)
+    → w.stopped ≡ false → k < length old
+    → RisenAll old S.horizon (give_plan (length old) S) (visiting w stops.mid)
+    → HasGiven (only_horizon S.horizon ∪ given_to_first (length old) k S) old new
+parts_up_to S k why old new v w count stops well lt r =
+    let n = length old in
+    let risen = r.mid.passes in
+    let mid = stops.mid in
+    let some : 0 < n = some_count n count in
+    let long : length risen ≡ n = r.risen.count in
+    let parts = parts_then old S w k mid r well (inl stops.next) in
+    let below_k : EachGives (λ i. cond (nat_lt i k) (PartGave old S i) (set_of_list [])) n risen mid = subst (λ l. EachGives (λ i. cond (nat_lt i k) (PartGave old S i) (set_of_list [])) l risen mid) long (first_of (PartGave old S) k risen mid (omega (arith, lt, long)) parts) in
+    let none : EachGives nothing n mid new = subst (λ l. EachGives nothing l mid new) (parts.count ∙ long) (entry_nothing w k why mid new stops.there stops.fails) in
+    let both = given_then (λ i. only_horizon S.horizon) (λ i. cond (nat_lt i k) (PartGave old S i) (set_of_list [])) n old risen mid r.risen below_k in
+    let all = given_then (λ i. only_horizon S.horizon ∪ cond (nat_lt i k) (PartGave old S i) (set_of_list [])) nothing n old mid new both none in
+    let shared = given_as (λ i. (only_horizon S.horizon ∪ cond (nat_lt i k) (PartGave old S i) (set_of_list [])) ∪ set_of_list []) (RaisedBelow n k S) n old new (below_is n k S) all in
+    given_by_sum (RaisedBelow n k S) (only_horizon S.horizon ∪ given_to_first n k S) old new shared.first (raised_are n k S n some (omega (arith, lt)))
+
+-- so of one that reads then
+horizon_up_to : (count k time : ℕ)
+    → SameGiven (only_horizon time) (only_horizon time ∪ given_to_first count k (only_horizon time))
+horizon_up_to count zero time = record {
+  horizon = omega arith;
+  there = λ r here. here;
+  back = λ r here. here;
+}
+horizon_up_to count (suc k) time = record {
+  horizon = omega arith;
+  there = λ r here. here;
+  back = λ r here. here;
+}
+
+reads_up_to : (time : ℕ) (rest : List Errand) (k : ℕ) (why : SharedFault) (old new : List ShardPass)
+    (v w : VisitState) → IsShardCount (length old) → AsksNone rest
+    → (stops : VisitStops v w k why old new) → RisenAll old time rest (visiting w stops.mid)
+    → HasGiven (only_horizon time ∪ given_to_first (length old) k (only_horizon time)) old new
+reads_up_to time rest k why old new v w count asks stops r =
+    let n = length old in
+    let mid = stops.mid in
+    let risen : EachGives (λ i. only_horizon time) n old mid = risen_read old time rest asks (visiting w mid) r in
+    let none : EachGives nothing n mid new = subst (λ l. EachGives nothing l mid new) risen.count (entry_nothing w k why mid new stops.there stops.fails) in
+    let all = given_as (λ i. only_horizon time ∪ set_of_list []) (λ i. only_horizon time) n old new (λ i. union_none (only_horizon time)) (given_then (λ i. only_horizon time) nothing n old mid new risen none) in
+    let gave = all_given (only_horizon time) old new count all in
+    (gave.0, gave.1, same_trans (gave_together gave.0) (only_horizon time) (only_horizon time ∪ given_to_first n k (only_horizon time)) gave.2 (horizon_up_to n k time))
+
+-- a visit that stops while it raises gave the horizon to the shards before
+risen_up_to : (time k j : ℕ) (why : SharedFault) (old new : List ShardPass) (v w : VisitState)
+    → (stops : VisitStops v w k why old new) → next_shard w ≡ Some j → j < length old
+    → EachGives (λ i. only_horizon time) j old stops.mid
+    → HasGiven (given_to_first (length old) k (only_horizon time)) old new
+risen_up_to time k j why old new v w stops next lt risen =
+    let both : Some j ≡ Some k = sym next ∙ stops.next in
+    let same : j ≡ k = cc in
+    subst (λ l. HasGiven (given_to_first (length old) l (only_horizon time)) old new) same
+    (stopped (only_horizon time) j old stops.mid new (omega (arith, lt)) risen (entry_nothing w k why stops.mid new stops.there stops.fails))
+
+-- if no memory was left for the visit, it gave nothing
+none_up_to : (S : ReferenceSet) (k : ℕ) (old new : List ShardPass) → k ≡ 0 → new ≡ old
+    → HasGivenUpTo k S old new
+none_up_to S k old new first same =
+    let T = only_horizon S.horizon in
+    inl (subst (λ (n : ℕ). HasGiven (given_to_first (length old) n T) old new) (sym first)
+    (stopped T 0 old old new (omega arith) (no_parts T old) (given_none (length old) old new same)))
+
+gives_up_to : (S : ReferenceSet) (k : ℕ) (why : SharedFault) (old new : List ShardPass)
+    (v : VisitState) → IsShardCount (length old)
+    → v.plan ≡ raise_plan (length old) S.horizon ++ give_plan (length old) S
+    → VisitFails v k why old new → HasGivenUpTo k S old new
+gives_up_to S k why old new v count plan (inl none) = none_up_to S k old new none.0 none.2
+gives_up_to S k why old new v count plan (inr (w, stops)) =
+    let well : w.stopped ≡ false = names_next w.stopped w.plan k (sym stops.next) in
+    elim (raises old S.horizon (give_plan (length old) S) v w stops.mid stops.goes plan well) [
+      | inl r ↦ inr (parts_up_to S k why old new v w count stops well (subst (λ l. k < l) ((parts_then old S w k stops.mid r well (inl stops.next)).count ∙ r.risen.count) stops.there) r)
+      | inr some ↦ inl (risen_up_to S.horizon k some.0 why old new v w stops some.1.next some.1.below some.1.risen)
     ]
 
-request_stopped : (sender time request : ℕ) (why : NotReceived) (old new : List ShardPass)
-    → RequestStops time request why old new
-    → HasGiven (given_to_first (length old) (shards_given (length old) why) (refs_in (Want sender time request))) old new
-request_stopped sender time request (Raising at) old new stops = raise_stopped time at.shard at.fault old new stops
-request_stopped sender time request (Answering at) old new (mid, raised, fails) =
-    after_raise time old mid new raised (answer_nothing request at.shard at.fault mid new fails)
-request_stopped sender time request why old new stops = absurd stops
+reading_up_to : (time : ℕ) (rest : List Errand) (k : ℕ) (why : SharedFault)
+    (old new : List ShardPass) (v : VisitState) → IsShardCount (length old) → AsksNone rest
+    → v.plan ≡ raise_plan (length old) time ++ rest → VisitFails v k why old new
+    → HasGivenUpTo k (only_horizon time) old new
+reading_up_to time rest k why old new v count asks plan (inl none) = none_up_to (only_horizon time) k old new none.0 none.2
+reading_up_to time rest k why old new v count asks plan (inr (w, stops)) =
+    let well : w.stopped ≡ false = names_next w.stopped w.plan k (sym stops.next) in
+    elim (raises old time rest v w stops.mid stops.goes plan well) [
+      | inl r ↦ inr (reads_up_to time rest k why old new v w count asks stops r)
+      | inr some ↦ inl (risen_up_to time k some.0 why old new v w stops some.1.next some.1.below some.1.risen)
+    ]
 
-digests_stopped : (sender time : ℕ) (digests : List (List ℕ)) (why : NotReceived)
-    (old new : List ShardPass) → DigestsStop time digests why old new
-    → HasGiven (given_to_first (length old) (shards_given (length old) why) (refs_in (Digest sender time digests))) old new
-digests_stopped sender time digests (Raising at) old new stops = raise_stopped time at.shard at.fault old new stops
-digests_stopped sender time digests (Comparing at) old new (mid, raised, fails) =
-    after_raise time old mid new raised (offer_nothing at.shard at.fault mid new fails)
-digests_stopped sender time digests (Answering at) old new (mid, later, own, raised, gathered, (request, is, some, fails)) =
-    after_raise time old mid new raised
-    (none_twice mid later new (gathered_each own mid later gathered) (answer_nothing request at.shard at.fault later new fails))
-digests_stopped sender time digests why old new stops = absurd stops
+-- ---- messages
 
-receipt_stopped : (message : Message) (why : NotReceived) (old new : List ShardPass)
-    → ReceiveStops message why old new
-    → HasGiven (given_to_first (length old) (shards_given (length old) why) (refs_in message)) old new
-receipt_stopped (Entries sender time entries) (Taking at) old new stops = take_stopped (Entries sender time entries) at.shard at.fault old new stops
-receipt_stopped (Entries sender time entries) why old new stops = absurd stops
-receipt_stopped (Digest sender time digests) why old new stops = digests_stopped sender time digests why old new stops
-receipt_stopped (Want sender time request) why old new stops = request_stopped sender time request why old new stops
+received_all : (id : ℕ) (message : Message) (old new : List ShardPass) → IsShardCount (length old)
+    → IsGoneThrough (receive_visit id (length old) message) old new
+    → HasGiven (refs_in message) old new
+received_all id (Entries sender time entries) old new count (w, gone) =
+    let S = refs_in (Entries sender time entries) in
+    all_given S old new count (all_both old new (receive_visit id (length old) (Entries sender time entries)) w gone.goes gone.well gone.over S refl)
+received_all id (Want sender time request) old new count (w, gone) =
+    all_given (only_horizon time) old new count (all_risen old new (receive_visit id (length old) (Want sender time request)) w gone.goes gone.well gone.over time (send_plan (length old) request) (asks_sends (length old) (requested_buckets request)) refl)
+received_all id (Digest sender time digests) old new count (w, gone) =
+    all_given (only_horizon time) old new count (all_risen old new (receive_visit id (length old) (Digest sender time digests)) w gone.goes gone.well gone.over time (at_each (length old) offering) (asks_each offering (λ b. refl) (length old)) refl)
+
+receipt_up_to : (id : ℕ) (message : Message) (k : ℕ) (why : SharedFault) (old new : List ShardPass)
+    → IsShardCount (length old) → VisitFails (receive_visit id (length old) message) k why old new
+    → HasGivenUpTo k (refs_in message) old new
+receipt_up_to id (Entries sender time entries) k why old new count fails =
+    gives_up_to (refs_in (Entries sender time entries)) k why old new (receive_visit id (length old) (Entries sender time entries)) count refl fails
+receipt_up_to id (Want sender time request) k why old new count fails =
+    reading_up_to time (send_plan (length old) request) k why old new (receive_visit id (length old) (Want sender time request)) count (asks_sends (length old) (requested_buckets request)) refl fails
+receipt_up_to id (Digest sender time digests) k why old new count fails =
+    reading_up_to time (at_each (length old) offering) k why old new (receive_visit id (length old) (Digest sender time digests)) count (asks_each offering (λ b. refl) (length old)) refl fails
 
 -- ---- the law
 
 pub threads_give : ThreadsGive
 threads_give old new count = record {
-  absorbed = λ batch so. all_given (set_of_list batch) old new count (absorbed_each batch (length old) old new so);
-  batch_stopped = λ batch k why so. batch_stopped batch k why old new so;
+  absorbed = λ id batch so. batch_given_all id batch old new count so;
+  batch_stopped = λ id batch k why so. batch_stopped id batch k why old new so;
   raised = λ time so. all_given (only_horizon time) old new count (raised_each time (length old) old new so);
   raise_stopped = λ time k why so. raise_stopped time k why old new so;
-  received = λ message answers so. all_given (refs_in message) old new count (message_each message answers old new so);
-  receipt_stopped = λ message why so. receipt_stopped message why old new so;
-  joined = λ h so. all_given (references_of h) old new count (taken_each (history_message h) (length old) old new so);
-  join_stopped = λ h k why so. take_stopped (history_message h) k why old new so;
+  received = λ id message so. received_all id message old new count so;
+  receipt_stopped = λ id message k why so. receipt_up_to id message k why old new count so;
+  joined = λ id h so. all_given (references_of h) old new count (all_both old new (join_visit id (length old) h) so.0 so.1.goes so.1.well so.1.over (references_of h) refl);
+  join_stopped = λ id h k why so. gives_up_to (references_of h) k why old new (join_visit id (length old) h) count refl so;
   called = λ i call reply lt so. called_given old new i call reply lt so;
-  refused = λ i call why lt fails. gave_nothing (length old) old new (fails_each old new i call why (gave_refused call) lt fails);
+  refused = λ i call why lt fails. gave_nothing (length old) old new (fails_each old new i call why (gave_none call) lt fails);
   done = λ call k none so. gave_nothing k old new (as_given (Does call) nothing k old new (λ i p q r. gives_as (gave_call call Done) (set_of_list []) p q none (gives_called p q call Done r)) so);
-  offered = λ offers k so. gave_nothing k old new (as_given (λ i. Offers (offer_at offers i) i) nothing k old new (λ i p q r. gives_called p q Offer (offer_reply (offer_at offers i)) r) so.1);
-  answered = λ request parts k so. gave_nothing k old new (as_given (λ i. AnswersPart (length old) request (slice_index_or parts i []) i) nothing k old new (λ i. answer_gives (length old) request (slice_index_or parts i []) i) so.1);
-  copied = λ copies k so. gave_nothing k old new (as_given (λ i. GivesCopy (slice_index_or copies i no_history) i) nothing k old new (λ i p q r. gives_called p q CopyHistory (Copied (slice_index_or copies i no_history)) r) so.1);
+  offered = λ id w goes. gave_nothing (length old) old new (reads_nothing (visiting (offer_visit id (length old)) old) (visiting w new) goes.0 (asks_each offering (λ b. refl) (length old)) goes.1);
+  copied = λ id w goes. gave_nothing (length old) old new (reads_nothing (visiting (copy_visit id (length old)) old) (visiting w new) goes.0 (asks_each copying (λ b. refl) (length old)) goes.1);
 }

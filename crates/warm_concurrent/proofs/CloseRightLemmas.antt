@@ -25,6 +25,9 @@ SameShare p q = q.view.share ≡ p.view.share
 same_self : (p : ShardPass) → SameShare p p
 same_self p = refl
 
+same_then : (p q r : ShardPass) → SameShare p q → SameShare q r → SameShare p r
+same_then p q r one other = other ∙ one
+
 same_got : (p q : ShardPass) (c : ShardCall) (r : ShardReply) → Got p.view c r q.view → SameShare p q
 same_got p q c r got = got.share
 
@@ -37,7 +40,7 @@ each_keeps : (old new : List ShardPass)
 each_keeps old new so = record { count = so.0; shares = λ i lt. so.1 i }
 
 pub calls_keep : OverCalls KeepsRight
-calls_keep = over_calls SameShare same_self same_got same_spent KeepsRight each_keeps
+calls_keep = over_calls SameShare same_self same_then same_got same_spent KeepsRight each_keeps
 
 -- ---- all threads together
 

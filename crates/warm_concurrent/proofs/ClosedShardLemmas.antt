@@ -11,9 +11,9 @@ use Rattle.warm_gossip.specs.State.{NodeState}
 use Rattle.warm_shards.specs.Shards.{held, no_shard, shard_at, whole}
 use Rattle.warm_shards.proofs.WholeLemmas.{last_two}
 use Rattle.warm_shard_machine.specs.declared.calls.ShardCall.{ShardCall}
-use Rattle.warm_shard_machine.specs.declared.calls.ShardCall.TheVariants.{Absorb, Raise, TakeIn}
+use Rattle.warm_shard_machine.specs.declared.calls.ShardCall.TheVariants.{Enter, Raise}
 use Rattle.warm_shard_machine.specs.declared.calls.ShardReply.{ShardReply}
-use Rattle.warm_shard_machine.specs.declared.calls.ShardReply.TheVariants.{Done, Foreign, Kept}
+use Rattle.warm_shard_machine.specs.declared.calls.ShardReply.TheVariants.{Entered, Foreign, Kept}
 use Rattle.warm_concurrent.specs.Attached.{Known, ShardPass, ShardTurn, known_of, shard_turn}
 use Rattle.warm_concurrent.specs.Given.{IsLog, SharedIsOfGiven, gave, gave_call, gave_together, log_at}
 use Rattle.warm_shard_machine.specs.Laws.{Log, asked_steps, given_by_steps, given_to_shard, node_steps}
@@ -28,7 +28,8 @@ use Rattle.warm_concurrent.proofs.ReferenceSetLemmas.{union_none}
 -- ---- what a call gave, and what it gave the node
 
 foreign_gave : (c : ShardCall) → gave_call c Foreign ≡ set_of_list []
-foreign_gave (Absorb batch) = refl
+foreign_gave (Raise time) = refl
+foreign_gave (Enter count number v) = refl
 foreign_gave c = refl
 
 call_gave : (S : ReferenceSet) (by : ℕ) (c : ShardCall) (r : ShardReply)
@@ -36,12 +37,10 @@ call_gave : (S : ReferenceSet) (by : ℕ) (c : ShardCall) (r : ShardReply)
 call_gave S by c Foreign =
     ap (λ (es : List (Operation Work ShardReply)). given_by_steps S es) (foreign_none by (asked_of c))
     ∙ sym (union_none S) ∙ ap (λ T. S ∪ T) (sym (foreign_gave c))
-call_gave S by (Absorb batch) Done = refl
-call_gave S by (Absorb batch) r = sym (union_none S)
 call_gave S by (Raise time) (Kept horizon) = refl
 call_gave S by (Raise time) r = sym (union_none S)
-call_gave S by (TakeIn horizon es) Done = refl
-call_gave S by (TakeIn horizon es) r = sym (union_none S)
+call_gave S by (Enter count number v) (Entered w) = refl
+call_gave S by (Enter count number v) r = sym (union_none S)
 call_gave S by c r = sym (union_none S)
 
 pub shard_gave : (S : ReferenceSet) (log : Log) → given_to_shard S log ≡ S ∪ gave log

@@ -1,31 +1,22 @@
 -- What a thread's calls add to its own calls, and what these gave.
-use Rattle.std.specs.Prelude.{slice_index_or}
-use Rattle.std.proofs.Common.{◌≡◌, ℕ, zero, suc, ◌<◌, List, [], ◌∷◌, ◌++◌, length, map, refl, sym, ap, subst, ◌∙◌, arith, append-nil, append_assoc}
-use Rattle.std.proofs.lemmas.List.{length-append, map_push}
-use Rattle.warm_stamps.specs.declared.Reference.{Reference}
+use Rattle.std.proofs.Common.{◌≡◌, ◌≢◌, inl, inr, ℕ, zero, suc, ◌<◌, List, [], ◌∷◌, ◌++◌, length, map, refl, sym, ap, subst, ◌∙◌, arith, append-nil, append_assoc}
+use Rattle.std.proofs.lemmas.Bool.{cases_eq}
+use Rattle.std.proofs.lemmas.List.{get_or-set_other, length-append, length-set, map_push}
 use Rattle.warm_history.specs.ReferenceSets.{ReferenceSet, set_of_list, ◌∪◌}
-use Rattle.warm_frames.specs.declared.message.Message.{Message}
-use Rattle.warm_frames.specs.declared.message.Message.TheVariants.{Entries, Digest, Want}
 use Rattle.warm_machine.specs.Runs.{operation}
-use Rattle.warm_peer.specs.Answers.{refs_in}
-use Rattle.warm_shards.specs.Parts.{part_of_message}
-use Rattle.warm_visits.specs.Parts.{part_of_batch}
+use Rattle.warm_turn.specs.CallHistories.{as_spent}
 use Rattle.warm_visits.specs.ShardNumbers.{IsShardCount, of_shard}
 use Rattle.warm_visits.proofs.ErrandLemmas.{some_count}
-use Rattle.warm_shards.proofs.WholeParts.{message_part}
 use Rattle.warm_shard_machine.specs.declared.calls.ShardCall.{ShardCall}
-use Rattle.warm_shard_machine.specs.declared.calls.ShardCall.TheVariants.{Absorb, Answer, Offer, Raise}
+use Rattle.warm_shard_machine.specs.declared.calls.ShardCall.TheVariants.{Raise}
 use Rattle.warm_shard_machine.specs.declared.calls.ShardReply.{ShardReply}
-use Rattle.warm_shard_machine.specs.declared.calls.ShardReply.TheVariants.{Answers, Done, Kept}
-use Rattle.warm_concurrent.specs.declared.answering.Offered.{Offered}
-use Rattle.warm_concurrent.specs.Answering.{AnswersAll, AnswersPart, GathersAll, Offers, offer_at, offer_reply}
-use Rattle.warm_concurrent.specs.Attached.{ShardPass, shard_pass}
+use Rattle.warm_shard_machine.specs.declared.calls.ShardReply.TheVariants.{Kept}
+use Rattle.warm_concurrent.specs.Attached.{KeepsOtherPasses, Known, ShardPass, no_pass, shard_pass}
 use Rattle.warm_concurrent.specs.Clauses.{Got}
 use Rattle.warm_concurrent.specs.Given.{HasGiven, SameGiven, gave, gave_call, gave_together, log_at, only_horizon}
 use Rattle.warm_shard_machine.specs.Laws.{Log}
-use Rattle.warm_concurrent.specs.Gossip.{Compares, ShardsReceive, ShardsTakeDigests, ShardsTakeRequest}
 use Rattle.warm_concurrent.specs.Laws.{all_of}
-use Rattle.warm_concurrent.specs.Whole.{AbsorbsFirst, AbsorbsPart, First, RaisesFirst, RaisesShard, TakesFirst, TakesPart, part_call}
+use Rattle.warm_concurrent.specs.Whole.{First, RaisesFirst, RaisesShard}
 use Rattle.warm_concurrent.proofs.ListLemmas.{push_each}
 use Rattle.warm_concurrent.proofs.ReferenceSetLemmas.{all_of_push, gave_append, sum, sum_is, union_none}
 
@@ -143,107 +134,53 @@ all_given S old new count each =
     let some : 0 < k = some_count k count in
     given_by_sum (λ i. of_shard k i S) S old new each.first (sum_is k k S some (λ r. omega (arith, some)))
 
--- ---- batches and horizons
-
-absorb_gives : (count : ℕ) (batch : List Reference) (i : ℕ) (old new : ShardPass)
-    → AbsorbsPart count batch i old new → Gives (of_shard count i (set_of_list batch)) old new
-absorb_gives count batch i old new so = cases (part_of_batch count i batch) refl
-  where
-    cases : (part : List Reference) → part_of_batch count i batch ≡ part
-        → Gives (set_of_list (part_of_batch count i batch)) old new
-    cases [] is = gives_as (set_of_list []) (set_of_list (part_of_batch count i batch)) old new (ap set_of_list (sym is)) (gives_none old new (so.0 is))
-    cases (r ∷ rs) is = gives_called old new (Absorb (part_of_batch count i batch)) Done (so.1 (λ none. let no : r ∷ rs ≡ [] = sym is ∙ none in absurd (cc)))
-
-pub absorbed_each : (batch : List Reference) (k : ℕ) (old new : List ShardPass)
-    → AbsorbsFirst batch k old new
-    → EachGives (λ i. of_shard (length old) i (set_of_list batch)) k old new
-absorbed_each batch k old new so =
-    as_given (AbsorbsPart (length old) batch) (λ i. of_shard (length old) i (set_of_list batch)) k old new (absorb_gives (length old) batch) so
+-- ---- horizons
 
 pub raised_each : (time k : ℕ) (old new : List ShardPass) → RaisesFirst time k old new
     → EachGives (λ i. only_horizon time) k old new
 raised_each time k old new so =
     as_given (RaisesShard time) (λ i. only_horizon time) k old new (λ i p q r. gives_called p q (Raise time) (Kept r.0) r.1) so
 
--- ---- messages
+-- ---- calls that gave nothing
 
--- an answer gives nothing
-pub answer_gives : (count request : ℕ) (messages : List Message) (i : ℕ) (old new : ShardPass)
-    → AnswersPart count request messages i old new → Gives (set_of_list []) old new
-answer_gives count request messages i old new (part, own, none, some) = cases part refl
-  where
-    cases : (p : ℕ) → part ≡ p → Gives (set_of_list []) old new
-    cases zero is = gives_none old new (none is).1
-    cases (suc p) is = gives_called old new (Answer part) (Answers messages) (some (λ zero_part. let no : suc p ≡ 0 = sym is ∙ zero_part in absurd (omega (arith, no))))
+-- what no shard gave
+abbrev pub nothing : ℕ → ReferenceSet
+nothing i = set_of_list []
 
-answered_each : (request : ℕ) (messages : List Message) (old new : List ShardPass)
-    → AnswersAll request messages old new → EachGives (λ i. set_of_list []) (length old) old new
-answered_each request messages old new (parts, so, is) =
-    as_given (λ i. AnswersPart (length old) request (slice_index_or parts i []) i) (λ i. set_of_list []) (length old) old new (λ i. answer_gives (length old) request (slice_index_or parts i []) i) so.1
-
-pub gathered_each : (all : Offered) (old new : List ShardPass) → GathersAll all old new
-    → EachGives (λ i. set_of_list []) (length old) old new
-gathered_each all old new (offers, so, is) =
-    as_given (λ i. Offers (offer_at offers i) i) (λ i. set_of_list []) (length old) old new (λ i p q r. gives_called p q Offer (offer_reply (offer_at offers i)) r) so.1
-
-compared_each : (digests : List (List ℕ)) (own : Offered) (messages : List Message)
-    (old new : List ShardPass) → Compares digests own messages old new
-    → EachGives (λ i. set_of_list []) (length old) old new
-compared_each digests own messages old new (request, is, none, some) = cases request refl
-  where
-    cases : (n : ℕ) → request ≡ n → EachGives (λ i. set_of_list []) (length old) old new
-    cases zero at = given_none (length old) old new (none at).1
-    cases (suc n) at =
-        let all = some (λ z. let no : suc n ≡ 0 = sym at ∙ z in absurd (omega (arith, no))) in
-        answered_each request all.0 old new all.1
-
--- if all shards are raised, and then nothing is given, they were given the horizon alone
-only_raised : (time : ℕ) (old mid new : List ShardPass) → RaisesFirst time (length old) old mid
-    → EachGives (λ i. set_of_list []) (length mid) mid new
-    → EachGives (λ i. only_horizon time) (length old) old new
-only_raised time old mid new raised none =
-    let k = length old in
-    let rest : EachGives (λ i. set_of_list []) k mid new = subst (λ (n : ℕ). EachGives (λ i. set_of_list []) n mid new) raised.count none in
-    given_as (λ i. only_horizon time ∪ set_of_list []) (λ i. only_horizon time) k old new (λ i. union_none (only_horizon time))
-    (given_then (λ i. only_horizon time) (λ i. set_of_list []) k old mid new (raised_each time k old mid raised) rest)
-
-pub none_twice : (old mid new : List ShardPass) → EachGives (λ i. set_of_list []) (length old) old mid
-    → EachGives (λ i. set_of_list []) (length mid) mid new
-    → EachGives (λ i. set_of_list []) (length old) old new
+pub none_twice : (old mid new : List ShardPass) → EachGives nothing (length old) old mid
+    → EachGives nothing (length mid) mid new
+    → EachGives nothing (length old) old new
 none_twice old mid new one other =
     let k = length old in
-    let rest : EachGives (λ i. set_of_list []) k mid new = subst (λ (n : ℕ). EachGives (λ i. set_of_list []) n mid new) one.count other in
-    given_as (λ i. set_of_list [] ∪ set_of_list []) (λ i. set_of_list []) k old new (λ i. refl)
-    (given_then (λ i. set_of_list []) (λ i. set_of_list []) k old mid new one rest)
+    let rest : EachGives nothing k mid new = subst (λ (n : ℕ). EachGives nothing n mid new) one.count other in
+    given_as (λ i. set_of_list [] ∪ set_of_list []) nothing k old new (λ i. refl)
+    (given_then nothing nothing k old mid new one rest)
 
--- what a shard takes in of a message
-part_gives : (count : ℕ) (message : Message) (i : ℕ) (old new : ShardPass)
-    → TakesPart count message i old new → Gives (of_shard count i (refs_in message)) old new
-part_gives count message i old new got =
-    gives_as (refs_in (part_of_message count i message)) (of_shard count i (refs_in message)) old new (message_part count i message)
-    (gives_called old new (part_call count message i) Done got)
+-- the other passes are as they were
+pub other_same : (old new : List ShardPass) (i j : ℕ) → KeepsOtherPasses old i new → j ≢ i
+    → shard_pass new j ≡ shard_pass old j
+other_same old new i j others other =
+    ap (λ (ps : List ShardPass). shard_pass ps j) others ∙ get_or-set_other old i j (shard_pass new i) no_pass other
 
-pub taken_each : (message : Message) (k : ℕ) (old new : List ShardPass) → TakesFirst message k old new
-    → EachGives (λ i. of_shard (length old) i (refs_in message)) k old new
-taken_each message k old new so =
-    as_given (TakesPart (length old) message) (λ i. of_shard (length old) i (refs_in message)) k old new (part_gives (length old) message) so
+pub gives_spent : (old new : ShardPass) → new.view ≡ as_spent old.view → Gives (set_of_list []) old new
+gives_spent old new is = (
+  [],
+  record {
+    number = ap (λ (v : Known). v.number) is;
+    mine = ap (λ (v : Known). v.mine) is ∙ sym (append-nil old.view.mine);
+  },
+  refl,
+)
 
-request_each : (time request : ℕ) (messages : List Message) (old new : List ShardPass)
-    → ShardsTakeRequest time request messages old new
-    → EachGives (λ i. only_horizon time) (length old) old new
-request_each time request messages old new (mid, raised, answered) =
-    only_raised time old mid new raised (answered_each request messages mid new answered)
-
-digests_each : (time : ℕ) (digests : List (List ℕ)) (messages : List Message)
-    (old new : List ShardPass) → ShardsTakeDigests time digests messages old new
-    → EachGives (λ i. only_horizon time) (length old) old new
-digests_each time digests messages old new (mid, later, own, raised, gathered, compared) =
-    only_raised time old mid new raised
-    (none_twice mid later new (gathered_each own mid later gathered) (compared_each digests own messages later new compared))
-
-pub message_each : (message : Message) (messages : List Message) (old new : List ShardPass)
-    → ShardsReceive message messages old new
-    → EachGives (λ i. of_shard (length old) i (refs_in message)) (length old) old new
-message_each (Entries sender time entries) messages old new so = taken_each (Entries sender time entries) (length old) old new so.1
-message_each (Digest sender time digests) messages old new so = digests_each time digests messages old new so
-message_each (Want sender time request) messages old new so = request_each time request messages old new so
+-- if one shard gave nothing, and the others were not called
+pub one_nothing : (old new : List ShardPass) (i : ℕ) → i < length old → KeepsOtherPasses old i new
+    → Gives (set_of_list []) (shard_pass old i) (shard_pass new i)
+    → EachGives nothing (length old) old new
+one_nothing old new i lt others gives = record {
+  count = ap length others ∙ length-set old i (shard_pass new i);
+  first = λ j less. elim (cases_eq j i) [
+    | inl same ↦ subst (λ (n : ℕ). Gives (set_of_list []) (shard_pass old n) (shard_pass new n)) (sym same) gives
+    | inr other ↦ gives_none (shard_pass old j) (shard_pass new j) (other_same old new i j others other)
+  ];
+  others = λ j le. other_same old new i j others (λ e. omega (arith, e, le, lt));
+}

@@ -1,29 +1,27 @@
 -- The laws of shared shards.
-use Rattle.std.specs.Prelude.{slice_index_or}
 use Rattle.std.proofs.lemmas.List.{length-set}
-use Rattle.std.proofs.Common.{◌≡◌, ◌⊎◌, inl, inr, ℕ, zero, suc, ◌<◌, ◌≤◌, List, [], ◌∷◌, length, refl, sym, ap, subst, ◌∙◌, arith, append-nil}
+use Rattle.std.proofs.Common.{◌≡◌, ◌⊎◌, inl, inr, ℕ, zero, suc, ◌<◌, ◌≤◌, List, [], ◌∷◌, ◌++◌, length, refl, sym, ap, subst, ◌∙◌, arith, append-nil, append_assoc}
 use mathlib.Core.List.{IsPrefix}
 use Rattle.warm_history.specs.ReferenceSets.{◌∪◌}
 use Rattle.warm_history.specs.Histories.{history, references_of}
 use Rattle.warm_history.proofs.JoinLemmas.{history_first, history_second}
 use Rattle.warm_turn.specs.CallHistories.{as_spent}
 use Rattle.warm_turn.proofs.PassLemmas.{Extended-called, Widened-joined}
-use Rattle.warm_frames.specs.declared.message.Message.{Message}
-use Rattle.warm_stamps.specs.declared.Reference.{Reference}
-use Rattle.warm_visits.specs.Parts.{part_of_batch}
+use Rattle.warm_machine.specs.declared.operation.Operation.{Operation}
+use Rattle.warm_machine.specs.Runs.{Runs}
+use Rattle.warm_visits.specs.Visits.{Errand, Said}
 use Rattle.warm_shard_machine.specs.declared.calls.ShardCall.{ShardCall}
-use Rattle.warm_shard_machine.specs.declared.calls.ShardCall.TheVariants.{Absorb, Answer, CopyHistory, Offer}
+use Rattle.warm_shard_machine.specs.declared.calls.ShardCall.TheVariants.{Enter}
 use Rattle.warm_shard_machine.specs.declared.calls.ShardReply.{ShardReply}
-use Rattle.warm_shard_machine.specs.declared.calls.ShardReply.TheVariants.{Answers, Copied, Done, Kept, Refused}
+use Rattle.warm_shard_machine.specs.declared.calls.ShardReply.TheVariants.{Done, Entered, Kept, Refused}
 use Rattle.warm_concurrent.specs.declared.fault.SharedFault.{SharedFault}
 use Rattle.warm_concurrent.specs.declared.fault.SharedFault.TheVariants.{Node, TurnsSpent}
-use Rattle.warm_concurrent.specs.Answering.{AnswersPart, Offers, offer_at, offer_reply}
 use Rattle.warm_concurrent.specs.Attached.{KeepsOtherPasses, Known, ShardPass, known_of, no_pass, shard_pass}
 use Rattle.warm_concurrent.specs.Clauses.{CallFails, Got}
-use Rattle.warm_concurrent.specs.Copying.{GivesCopy, no_history}
 use Rattle.warm_concurrent.specs.Laws.{OnlySeesMore, OverCalls, SeesMore, TogetherAreOfGiven, all_of, held_by}
 use Rattle.warm_shard_machine.specs.ShardSteps.{ShardStep}
-use Rattle.warm_concurrent.specs.Whole.{AbsorbsPart, Does, First, RaisesShard, TakesPart, part_call}
+use Rattle.warm_concurrent.specs.Visiting.{EntersByTurn, Visiting, visiting}
+use Rattle.warm_concurrent.specs.Whole.{Does, First, RaisesShard}
 use Rattle.warm_shards.proofs.Places.{at_each}
 
 pub together_are_of_given : TogetherAreOfGiven
@@ -45,9 +43,11 @@ below zero (suc b) = inl (omega arith)
 below (suc a) zero = inr (omega arith)
 below (suc a) (suc b) = elim (below a b) [ inl lt ↦ inl (omega (arith, lt)) | inr le ↦ inr (omega (arith, le)) ]
 
--- A relation that holds of each pass and itself, and of a pass before and after a call, and before and
--- after it is spent. So it holds of all passes of a thread, before and after each call of shards.
+-- A relation that holds of each pass and itself, goes on, and holds of a pass before and after a call,
+-- and before and after it is spent. So it holds of all passes of a thread, before and after each call
+-- of shards.
 module _ (P : ShardPass → ShardPass → Type 0) (self : (p : ShardPass) → P p p)
+    (trans : (p q r : ShardPass) → P p q → P q r → P p r)
     (got : (p q : ShardPass) (c : ShardCall) (r : ShardReply) → Got p.view c r q.view → P p q)
     (spent : (p q : ShardPass) → q.view ≡ as_spent p.view → P p q) where
   abbrev pub EachIsSo : List ShardPass → List ShardPass → Type 0
@@ -76,22 +76,22 @@ module _ (P : ShardPass → ShardPass → Type 0) (self : (p : ShardPass) → P 
     ],
   )
 
-  part_so : (count : ℕ) (batch : List Reference) (i : ℕ) (old new : ShardPass)
-      → AbsorbsPart count batch i old new → P old new
-  part_so count batch i old new so = cases (part_of_batch count i batch) refl
-    where
-      cases : (part : List Reference) → part_of_batch count i batch ≡ part → P old new
-      cases [] is = same_so old new (so.0 is)
-      cases (r ∷ rs) is = got old new (Absorb (part_of_batch count i batch)) Done (so.1 (λ none. let no : r ∷ rs ≡ [] = sym is ∙ none in absurd (cc)))
+  then_so : (old mid new : List ShardPass) → EachIsSo old mid → EachIsSo mid new → EachIsSo old new
+  then_so old mid new one other = (
+    other.0 ∙ one.0,
+    λ j. trans (shard_pass old j) (shard_pass mid j) (shard_pass new j) (one.1 j) (other.1 j),
+  )
 
-  -- a shard that has none of the requested buckets was not called
-  answer_so : (count request : ℕ) (messages : List Message) (i : ℕ) (old new : ShardPass)
-      → AnswersPart count request messages i old new → P old new
-  answer_so count request messages i old new (part, own, none, some) = cases part refl
-    where
-      cases : (p : ℕ) → part ≡ p → P old new
-      cases zero is = same_so old new (none is).1
-      cases (suc p) is = got old new (Answer part) (Answers messages) (some (λ zero_part. let no : suc p ≡ 0 = sym is ∙ zero_part in absurd (omega (arith, no))))
+  -- each entry of a visit is a call of one shard
+  visit_so : (s t : Visiting) (es : List (Operation Errand Said)) → Runs EntersByTurn s es t
+      → EachIsSo s.passes t.passes
+  visit_so s t [] runs =
+      subst (λ (x : Visiting). EachIsSo s.passes x.passes) runs (refl, λ j. self (shard_pass s.passes j))
+  visit_so s t (o ∷ os) (y, entry, runs) =
+      let i = o.call.shard in
+      then_so s.passes y.passes t.passes
+      (one_so s.passes y.passes i entry.0 entry.2.1 (got (shard_pass s.passes i) (shard_pass y.passes i) (Enter (length s.passes) i s.visit) (Entered y.visit) entry.2.0))
+      (visit_so y t os runs)
 
   -- a call that was refused, or found no ticket
   fails_so : (old new : List ShardPass) (i : ℕ) (c : ShardCall) (why : SharedFault) → i < length old
@@ -107,19 +107,19 @@ module _ (P : ShardPass → ShardPass → Type 0) (self : (p : ShardPass) → P 
   over_calls So from = record {
     called = λ old new i call reply lt so. from old new (one_so old new i lt so.1 (got (shard_pass old i) (shard_pass new i) call reply so.0));
     refused = λ old new i call why lt fails. from old new (fails_so old new i call why lt fails);
-    absorbed = λ old new k batch so. from old new (firsts_so (AbsorbsPart (length old) batch) (part_so (length old) batch) k old new so);
+    visited = λ old new v w goes. from old new (visit_so (visiting v old) (visiting w new) goes.0 goes.1);
     raised = λ old new k time so. from old new (firsts_so (RaisesShard time) (λ i p q r. got p q _ (Kept r.0) r.1) k old new so);
-    taken = λ old new k message so. from old new (firsts_so (TakesPart (length old) message) (λ i p q r. got p q (part_call (length old) message i) Done r) k old new so);
     done = λ old new k call so. from old new (firsts_so (Does call) (λ i p q r. got p q call Done r) k old new so);
-    offered = λ old new offers k so. from old new (firsts_so (λ i. Offers (offer_at offers i) i) (λ i p q r. got p q Offer (offer_reply (offer_at offers i)) r) k old new so.1);
-    answered = λ old new request parts k so. from old new (firsts_so (λ i. AnswersPart (length old) request (slice_index_or parts i []) i) (λ i. answer_so (length old) request (slice_index_or parts i []) i) k old new so.1);
-    copied = λ old new copies k so. from old new (firsts_so (λ i. GivesCopy (slice_index_or copies i no_history) i) (λ i p q r. got p q CopyHistory (Copied (slice_index_or copies i no_history)) r) k old new so.1);
   }
 
 -- ---- what a thread has seen
 
 prefix_self : {A : Type 0} (xs : List A) → IsPrefix xs xs
 prefix_self xs = ([], append-nil xs)
+
+prefix_then : {A : Type 0} (xs ys zs : List A) → IsPrefix xs ys → IsPrefix ys zs → IsPrefix xs zs
+prefix_then xs ys zs (us, one) (vs, other) =
+    (us ++ vs, sym (append_assoc xs us vs) ∙ ap (λ l. l ++ vs) one ∙ other)
 
 -- what was seen stays once a pass is spent
 seen_spent : (p q : ShardPass) → q.view ≡ as_spent p.view → IsPrefix p.view.seen q.view.seen
@@ -128,6 +128,6 @@ seen_spent p q is =
 
 pub only_sees_more : OnlySeesMore
 only_sees_more = record {
-  calls = over_calls (λ p q. IsPrefix p.view.seen q.view.seen) (λ p. prefix_self p.view.seen) (λ p q c r called. (Extended-called ShardStep p.view q.view c r called).seen) seen_spent SeesMore (λ old new so i lt. so.1 i);
+  calls = over_calls (λ p q. IsPrefix p.view.seen q.view.seen) (λ p. prefix_self p.view.seen) (λ p q r. prefix_then p.view.seen q.view.seen r.view.seen) (λ p q c r called. (Extended-called ShardStep p.view q.view c r called).seen) seen_spent SeesMore (λ old new so i lt. so.1 i);
   joined = λ old other new so i lt. (Widened-joined ShardStep (known_of old i) (known_of other i) (known_of new i) (so.each i lt)).seen;
 }

@@ -3,11 +3,10 @@ pub mod PassLemmas
 pub mod ShardNumberLemmas
 pub mod AttachingLemmas
 pub mod WholeCallLemmas
-pub mod GatheredOfferLemmas
+pub mod FirstGaveLemmas
 pub mod CopyLemmas
 pub mod RaisingLemmas
-pub mod BatchPartLemmas
-pub mod RequestPartLemmas
+pub mod EntryLemmas
 pub mod LawLemmas
 pub mod CloseRightLemmas
 pub mod SendLemmas
@@ -15,6 +14,9 @@ pub mod OwnPageLemmas
 pub mod LookLemmas
 pub mod ReferenceSetLemmas
 pub mod GivenLemmas
+pub mod VisitedLemmas
+pub mod ReadLemmas
+pub mod RaisedLemmas
 pub mod CallsGivenLemmas
 pub mod ClosedShardLemmas
 pub mod TwoThreadBatchLemmas

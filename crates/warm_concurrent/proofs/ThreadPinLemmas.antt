@@ -1,30 +1,27 @@
 -- The pins that the calls of a thread gave and removed.
-use Rattle.std.specs.Prelude.{slice_index_or}
 use Rattle.std.specs.List.{flat_map, sum_by}
-use Rattle.std.proofs.Common.{◌≡◌, ◌⊎◌, inl, inr, ℕ, zero, suc, ◌+◌, ◌<◌, List, [], ◌∷◌, ◌++◌, length, set, refl, sym, ap, ◌∙◌, arith}
+use Rattle.std.proofs.Common.{◌≡◌, ◌⊎◌, inl, inr, ℕ, suc, ◌+◌, ◌<◌, List, [], ◌∷◌, ◌++◌, length, set, refl, sym, ap, ◌∙◌, arith}
 use Rattle.std.proofs.lemmas.List.Concat.{flat_map-append}
 use Rattle.std.proofs.lemmas.List.Sums.{sum_by-append, sum_by-cons, sum_by-set, sum_by_push}
-use Rattle.warm_stamps.specs.declared.Reference.{Reference}
-use Rattle.warm_frames.specs.declared.message.Message.{Message}
-use Rattle.warm_machine.specs.Runs.{operation}
+use Rattle.warm_machine.specs.declared.operation.Operation.{Operation}
+use Rattle.warm_machine.specs.Runs.{Runs, operation}
 use Rattle.warm_turn.specs.declared.table.EndedPass.{EndedPass}
 use Rattle.warm_turn.specs.CallHistories.{as_ended}
-use Rattle.warm_visits.specs.Parts.{part_of_batch}
+use Rattle.warm_visits.specs.Visits.{Errand, Said, VisitState}
 use Rattle.warm_shard_machine.specs.declared.calls.ShardCall.{ShardCall}
-use Rattle.warm_shard_machine.specs.declared.calls.ShardCall.TheVariants.{Absorb, Answer, CopyHistory, Offer, Pin, PinFilled, PinZeroed, Raise}
+use Rattle.warm_shard_machine.specs.declared.calls.ShardCall.TheVariants.{Enter, Pin, PinFilled, PinZeroed, Raise, Victim}
 use Rattle.warm_shard_machine.specs.declared.calls.ShardReply.{ShardReply}
-use Rattle.warm_shard_machine.specs.declared.calls.ShardReply.TheVariants.{Answers, Copied, Done, Kept, Refused}
+use Rattle.warm_shard_machine.specs.declared.calls.ShardReply.TheVariants.{Done, Entered, Kept, Refused}
 use Rattle.warm_concurrent.specs.declared.fault.SharedFault.{SharedFault}
 use Rattle.warm_concurrent.specs.declared.fault.SharedFault.TheVariants.{Node, TurnsSpent}
-use Rattle.warm_concurrent.specs.Answering.{AnswersPart, Offers, offer_at, offer_reply}
 use Rattle.warm_concurrent.specs.Attached.{AttachedView, KeepsOtherPasses, Known, ShardPass, ShardTurn, known_of, no_pass, shard_pass}
 use Rattle.warm_concurrent.specs.Clauses.{AnsweredByShard, CallFails, Got}
-use Rattle.warm_concurrent.specs.Copying.{GivesCopy, no_history}
 use Rattle.warm_shard_machine.specs.Laws.{Log}
 use Rattle.warm_concurrent.specs.Opening.{AreFirst, AreHalved, AreSplit, PassesAreJoined}
 use Rattle.warm_concurrent.specs.Pins.{CallsPin, HasPinned, IsCounted, PinsAreCounted, calls_held, thread_calls}
 use Rattle.warm_shard_machine.specs.Pins.{pin_by, unpin_by}
-use Rattle.warm_concurrent.specs.Whole.{AbsorbsPart, Does, First, RaisesShard, TakesPart, part_call}
+use Rattle.warm_concurrent.specs.Visiting.{EntersByTurn, Visiting, visiting}
+use Rattle.warm_concurrent.specs.Whole.{Does, First, RaisesShard}
 use Rattle.warm_concurrent.proofs.LawLemmas.{below}
 use Rattle.warm_concurrent.proofs.CallSumLemmas.{total}
 use Rattle.warm_shard_machine.proofs.ShardPinLemmas.{pin_refused, unpin_refused}
@@ -114,9 +111,21 @@ module _ (w : ShardCall → ShardReply → ℕ) where
   called_more old new i c r lt so =
       one_more old new i (w c r) lt so.1 (got_more (shard_pass old i) (shard_pass new i) c r so.0)
 
+  -- an entry of a visit is a call, and comes to nothing
+  visit_same : ((n i : ℕ) (v y : VisitState) → w (Enter n i v) (Entered y) ≡ 0) → (s t : Visiting)
+      (es : List (Operation Errand Said)) → Runs EntersByTurn s es t
+      → total w (thread_calls t.passes) ≡ total w (thread_calls s.passes) + 0
+  visit_same none s t [] runs =
+      let same : total w (thread_calls t.passes) ≡ total w (thread_calls s.passes) = ap (λ (x : Visiting). total w (thread_calls x.passes)) (sym runs) in
+      omega (arith, same)
+  visit_same none s t (o ∷ os) (y, entry, runs) =
+      let i = o.call.shard in
+      let one = called_more s.passes y.passes i (Enter (length s.passes) i s.visit) (Entered y.visit) entry.0 entry.2 in
+      omega (arith, one, none (length s.passes) i s.visit y.visit, visit_same none y t os runs)
+
   -- a mark is no call
   marked_same : (old new : List ShardPass) (i : ℕ) → i < length old
-      → CallFails old i CopyHistory TurnsSpent new
+      → CallFails old i Victim TurnsSpent new
       → total w (thread_calls new) ≡ total w (thread_calls old) + 0
   marked_same old new i lt spent =
       let same : weight (shard_pass new i) ≡ weight (shard_pass old i) = ap (λ (v : Known). total w (calls_held v)) spent.0 in
@@ -172,22 +181,6 @@ quiet_firsts So quiet k old new so =
       unpins = each_same unpin_by old new so.count (λ j lt. elim (each j) [ inl same ↦ ap (weight unpin_by) same | inr (c, r, none, also, got) ↦ quiet_same unpin_by (shard_pass old j) (shard_pass new j) c r also got ]);
     }
 
-absorb_quiet : (count : ℕ) (batch : List Reference) (i : ℕ) (p q : ShardPass)
-    → AbsorbsPart count batch i p q → IsQuiet p q
-absorb_quiet count batch i p q so = cases (part_of_batch count i batch) refl
-  where
-    cases : (part : List Reference) → part_of_batch count i batch ≡ part → IsQuiet p q
-    cases [] is = inl (so.0 is)
-    cases (r ∷ rs) is = inr (Absorb (part_of_batch count i batch), Done, refl, refl, so.1 (λ none. let no : r ∷ rs ≡ [] = sym is ∙ none in absurd (cc)))
-
-answer_quiet : (count request : ℕ) (messages : List Message) (i : ℕ) (p q : ShardPass)
-    → AnswersPart count request messages i p q → IsQuiet p q
-answer_quiet count request messages i p q (part, own, none, some) = cases part refl
-  where
-    cases : (n : ℕ) → part ≡ n → IsQuiet p q
-    cases zero is = inl (none is).1
-    cases (suc n) is = inr (Answer part, Answers messages, refl, refl, some (λ no_part. let no : suc n ≡ 0 = sym is ∙ no_part in absurd (omega (arith, no))))
-
 -- a call that is done gives no pin
 done_gives_none : (c : ShardCall) → pin_by c Done ≡ 0
 done_gives_none (Pin p) = refl
@@ -210,13 +203,12 @@ calls_pin : (old new : List ShardPass) → CallsPin old new
 calls_pin old new = record {
   called = λ i c r lt so. record { pins = called_more pin_by old new i c r lt so; unpins = called_more unpin_by old new i c r lt so };
   refused = λ i c why lt fails. refused old new i c why lt fails;
-  absorbed = λ batch k so. quiet_firsts (AbsorbsPart (length old) batch) (absorb_quiet (length old) batch) k old new so;
+  visited = λ v w goes. record {
+    pins = visit_same pin_by (λ n i v w. refl) (visiting v old) (visiting w new) goes.0 goes.1;
+    unpins = visit_same unpin_by (λ n i v w. refl) (visiting v old) (visiting w new) goes.0 goes.1;
+  };
   raised = λ time k so. quiet_firsts (RaisesShard time) (λ i p q r. inr (Raise time, Kept r.0, refl, refl, r.1)) k old new so;
-  taken = λ message k so. quiet_firsts (TakesPart (length old) message) (λ i p q r. inr (part_call (length old) message i, Done, refl, refl, r)) k old new so;
   done = λ call k none so. quiet_firsts (Does call) (λ i p q r. inr (call, Done, done_gives_none call, none, r)) k old new so;
-  offered = λ offers k so. quiet_firsts (λ i. Offers (offer_at offers i) i) (λ i p q r. inr (Offer, offer_reply (offer_at offers i), refl, refl, r)) k old new so.1;
-  answered = λ request parts k so. quiet_firsts (λ i. AnswersPart (length old) request (slice_index_or parts i []) i) (λ i. answer_quiet (length old) request (slice_index_or parts i []) i) k old new so.1;
-  copied = λ copies k so. quiet_firsts (λ i. GivesCopy (slice_index_or copies i no_history) i) (λ i p q r. inr (CopyHistory, Copied (slice_index_or copies i no_history), refl, refl, r)) k old new so.1;
 }
 
 -- passes that hold no call

@@ -5,22 +5,22 @@ use Rattle.std.proofs.lemmas.Bool.{eq-eqb}
 use mathlib.Core.Option.{some}
 use lib.ListN.{get_elem?}
 use Rattle.warm_history.specs.ReferenceSets.{ReferenceSet, set_of_list, ◌∪◌}
-use Rattle.warm_stamps.specs.declared.Reference.{Reference}
 use Rattle.warm_turn.specs.declared.table.EndedPass.{EndedPass}
 use Rattle.warm_machine.specs.declared.operation.Operation.{Operation}
 use Rattle.warm_turn.specs.CallHistories.{EachIsBy, HoldsNumber, IsAmong, as_ended, calls_by}
 use Rattle.warm_turn.specs.declared.fault.Busy.{Busy}
 use Rattle.warm_gossip.specs.State.{NodeState}
 use Rattle.warm_visits.specs.ShardNumbers.{IsShardCount}
+use Rattle.warm_visits.specs.Visits.{VisitState, absorb_visit}
 use Rattle.warm_shard_machine.specs.declared.calls.ShardCall.{ShardCall}
 use Rattle.warm_shard_machine.specs.declared.calls.ShardReply.{ShardReply}
-use Rattle.warm_concurrent.specs.Attached.{Known, ShardPass, ShardTurn, known_of}
+use Rattle.warm_concurrent.specs.Attached.{Known, ShardPass, ShardTurn, known_of, opened_id}
 use Rattle.warm_concurrent.specs.Given.{AreLogs, HasMade, SameGiven, TwoThreadsAreHeld, gave, gave_call, gave_together, log_at}
 use Rattle.warm_shard_machine.specs.Laws.{Log}
 use Rattle.warm_concurrent.specs.Laws.{OverCalls}
 use Rattle.warm_concurrent.specs.Opening.{AreClosed, AreFirst, AreHalved, PassesAreJoined, AreSplit}
 use Rattle.warm_concurrent.specs.Rights.{Come, HasWholeRight, Moves, Threads, ThreadsMove}
-use Rattle.warm_concurrent.specs.Whole.{AbsorbsFirst}
+use Rattle.warm_concurrent.specs.Visiting.{GoesByTurns, IsGoneThrough}
 use Rattle.warm_concurrent.proofs.ClosedShardLemmas.{shared_is_of_given, turns_long}
 use Rattle.warm_concurrent.proofs.LawLemmas.{over_calls}
 use Rattle.warm_concurrent.proofs.CloseRightLemmas.{alone_has_all, calls_keep, closed_gives_back}
@@ -115,11 +115,15 @@ all_in P T log (e ∷ es) each more held =
     (includes_trans (gave (calls_by e.by log)) (gave (calls_by e.by (e ∷ es))) (gave_call e.call e.reply) (more e.by) (first_in e es)))
     (all_in P T log es each (λ n. includes_trans (gave (calls_by n log)) (gave (calls_by n (e ∷ es))) (gave (calls_by n es)) (more n) (rest_in n e es)) held.1)
 
--- a batch leaves those that were ended into a pass
-ended_kept : OverCalls (λ old new. (i : ℕ) → (known_of new i).ended ≡ (known_of old i).ended)
+-- a call leaves those that were ended into a pass, and there are as many passes
+record KeepsEnded (old new : List ShardPass) : Type 0 where
+  count : length new ≡ length old
+  each : (i : ℕ) → (known_of new i).ended ≡ (known_of old i).ended
+
+ended_kept : OverCalls KeepsEnded
 ended_kept =
-    over_calls (λ p q. q.view.ended ≡ p.view.ended) (λ p. refl) (λ p q c r got. got.ended) (λ p q is. ap (λ (v : Known). v.ended) is) (λ old new. (i : ℕ) → (known_of new i).ended ≡ (known_of old i).ended)
-    (λ old new so i. so.1 i)
+    over_calls (λ p q. q.view.ended ≡ p.view.ended) (λ p. refl) (λ p q r one other. other ∙ one) (λ p q c r got. got.ended) (λ p q is. ap (λ (v : Known). v.ended) is) KeepsEnded
+    (λ old new so. record { count = so.0; each = so.1 })
 
 -- one of these moves, and the others have what they had
 pub moves_there : (before these left after : Threads) → Moves these left
@@ -135,14 +139,14 @@ moves_there before these left after moves = record {
 }
 
 -- two threads, of which one is left
-two_come : (k : ℕ) (first here there mine yours all : List ShardPass) (one two : List Reference)
-    → AreHalved first here → AreSplit first there → AbsorbsFirst one k here mine
-    → AbsorbsFirst two k there yours → PassesAreJoined mine yours all
+two_come : (first here there mine yours all : List ShardPass) (v w x y : VisitState)
+    → AreHalved first here → AreSplit first there → GoesByTurns v here w mine
+    → GoesByTurns x there y yours → PassesAreJoined mine yours all
     → (between : List Threads) × Come (first ∷ []) between (all ∷ [])
-two_come k first here there mine yours all one two halved split absorbed also joined =
+two_come first here there mine yours all v w x y halved split goes also joined =
     let apart = moves_there [] (first ∷ []) (here ∷ there ∷ []) [] (halved, split) in
-    let ours = moves_there [] (here ∷ []) (mine ∷ []) (there ∷ []) (calls_keep.absorbed here mine k one absorbed) in
-    let theirs = moves_there (mine ∷ []) (there ∷ []) (yours ∷ []) [] (calls_keep.absorbed there yours k two also) in
+    let ours = moves_there [] (here ∷ []) (mine ∷ []) (there ∷ []) (calls_keep.visited here mine v w goes) in
+    let theirs = moves_there (mine ∷ []) (there ∷ []) (yours ∷ []) [] (calls_keep.visited there yours x y also) in
     let again = moves_there [] (mine ∷ yours ∷ []) (all ∷ []) [] joined in
     ((here ∷ there ∷ []) ∷ (mine ∷ there ∷ []) ∷ (mine ∷ yours ∷ []) ∷ (all ∷ []) ∷ [], (apart, (ours, (theirs, (again, refl)))))
 
@@ -198,19 +202,19 @@ module _ (turns : List ShardTurn) (first here there mine yours all : List ShardP
       subst (λ (l : Log). Includes (gave (log_at logs i)) (gave l)) (yours_calls more i made lt long also) (part_included n (log_at logs i))
 
   -- what each thread's pass holds when it is ended, or closes
-  module _ (one two : List Reference) (absorbed : AbsorbsFirst one (length turns) here mine)
-      (also : AbsorbsFirst two (length turns) there yours) (here_long : length here ≡ length turns)
+  module _ (v w x y : VisitState) (goes : GoesByTurns v here w mine)
+      (also : GoesByTurns x there y yours) (here_long : length here ≡ length turns)
       (there_long : length there ≡ length turns) (mine_long : length mine ≡ length turns)
       (whole_right : HasWholeRight (length turns) all) where
     mine_ended : (i : ℕ) → i < length turns → (known_of mine i).ended ≡ []
     mine_ended i lt =
         let was = halved.each i (omega (arith, lt, opens.count)) in
-        ended_kept.absorbed here mine (length turns) one absorbed i ∙ ap (λ (p : ShardPass). p.view.ended) was ∙ ap (λ (v : Known). v.ended) (opens.views i lt)
+        (ended_kept.visited here mine v w goes).each i ∙ ap (λ (p : ShardPass). p.view.ended) was ∙ ap (λ (v : Known). v.ended) (opens.views i lt)
 
     yours_ended : (i : ℕ) → i < length turns → (known_of yours i).ended ≡ []
     yours_ended i lt =
         let is = split.each i (omega (arith, lt, opens.count)) in
-        ended_kept.absorbed there yours (length turns) two also i ∙ ap (λ (v : Known). v.ended) is.1
+        (ended_kept.visited there yours x y also).each i ∙ ap (λ (v : Known). v.ended) is.1
 
     -- the closing pass holds the other alone
     all_ended : (i : ℕ) → i < length turns
@@ -244,7 +248,12 @@ module _ (turns : List ShardTurn) (first here there mine yours all : List ShardP
 
 pub two_threads_are_held : TwoThreadsAreHeld
 two_threads_are_held S opened turns first here there mine yours all one two results valid opens stands start halved split absorbed also joined closes =
-    let come = two_come (length turns) first here there mine yours all one two halved split absorbed also joined in
+    let n = length turns in
+    let v = absorb_visit (opened_id turns) n one in
+    let x = absorb_visit (opened_id turns) n two in
+    let w = absorbed.0 in
+    let y = also.0 in
+    let come = two_come first here there mine yours all v w x y halved split absorbed.1.goes also.1.goes joined in
     let all_right : HasWholeRight (length turns) all = alone_has_all turns first all come.0 start come.1 in
     let back = closed_gives_back turns all results all_right closes in
     let nodes = back.0 in
@@ -252,10 +261,10 @@ two_threads_are_held S opened turns first here there mine yours all one two resu
     let long : length turns ≡ length opened = turns_long opened turns opens in
     let here_long : length here ≡ length turns = halved.count ∙ start.count in
     let there_long : length there ≡ length turns = split.count ∙ start.count in
-    let mine_long : length mine ≡ length turns = absorbed.count ∙ here_long in
+    let mine_long : length mine ≡ length turns = (ended_kept.visited here mine v w absorbed.1.goes).count ∙ here_long in
     let count : IsShardCount (length turns) = subst IsShardCount (sym long) valid.count in
-    let left = (threads_give here mine (subst IsShardCount (sym here_long) count)).absorbed one (subst (λ (k : ℕ). AbsorbsFirst one k here mine) (sym here_long) absorbed) in
-    let right = (threads_give there yours (subst IsShardCount (sym there_long) count)).absorbed two (subst (λ (k : ℕ). AbsorbsFirst two k there yours) (sym there_long) also) in
+    let left = (threads_give here mine (subst IsShardCount (sym here_long) count)).absorbed (opened_id turns) one (subst (λ (k : ℕ). IsGoneThrough (absorb_visit (opened_id turns) k one) here mine) (sym here_long) absorbed) in
+    let right = (threads_give there yours (subst IsShardCount (sym there_long) count)).absorbed (opened_id turns) two (subst (λ (k : ℕ). IsGoneThrough (absorb_visit (opened_id turns) k two) there yours) (sym there_long) also) in
     let closing = shared_is_of_given S opened turns all nodes valid opens stands closed in
     let logs = closing.0 in
     let G = gave_together logs in
@@ -273,7 +282,7 @@ two_threads_are_held S opened turns first here there mine yours all one two resu
     let theirs : Includes U (gave_together right.0) = includes_right (set_of_list one) (set_of_list two) (gave_together right.0) (same_included (gave_together right.0) (set_of_list two) right.2) in
     let no_more : Includes U G = together_in U logs (λ i lt.
     let less : i < length turns = omega (arith, lt, closing.1.count) in
-    nothing_else turns first here there mine yours all start halved split joined nodes logs closing.1 one two absorbed also here_long there_long mine_long all_right U left.0 right.0 i left.1 right.1 less
+    nothing_else turns first here there mine yours all start halved split joined nodes logs closing.1 v w x y absorbed.1.goes also.1.goes here_long there_long mine_long all_right U left.0 right.0 i left.1 right.1 less
     (includes_trans U (gave_together left.0) (gave (log_at left.0 i)) ours (one_in left.0 i (omega (arith, less, left.1.count, here_long))))
     (includes_trans U (gave_together right.0) (gave (log_at right.0 i)) theirs (one_in right.0 i (omega (arith, less, right.1.count, there_long))))) in
     (nodes, back.1, closing.2 ∙ same_history S G U (same_by_both G U has_both no_more))

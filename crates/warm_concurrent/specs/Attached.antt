@@ -81,3 +81,7 @@ pub record OpenedAs (id : ℕ) (turns : List ShardTurn) : Type 0 where
 -- every pass but that of this shard is unchanged
 abbrev pub KeepsOtherPasses : List ShardPass → ℕ → List ShardPass → Type 0
 KeepsOtherPasses old i new = new ≡ slice_set old i (shard_pass new i)
+
+-- the number of the replica with whose nodes the shards opened
+abbrev pub opened_id : List ShardTurn → ℕ
+opened_id turns = (shard_turn turns 0).opening.node.id

@@ -1,5 +1,5 @@
 -- What shards were given, all together, and what a thread's calls gave them.
-use Rattle.std.specs.Prelude.{◌≡◌, ℕ, zero, suc, ◌<◌, List, [], ◌∷◌, ◌++◌, length, map, Some, Ok}
+use Rattle.std.specs.Prelude.{◌≡◌, ◌⊎◌, ℕ, zero, suc, ◌<◌, List, [], ◌∷◌, ◌++◌, length, map, Some, Ok}
 use Rattle.std.specs.Prelude.{Result, slice_index_or}
 use mathlib.Core.Option.{some}
 use mathlib.Core.List.{IsPrefix}
@@ -8,7 +8,7 @@ use Rattle.warm_stamps.specs.declared.PageId.{PageId}
 use Rattle.warm_stamps.specs.declared.Reference.{Reference}
 use Rattle.warm_history.specs.ReferenceSets.{ReferenceSet, set_of_list, ◌∪◌}
 use Rattle.warm_history.specs.References.{IsIn}
-use Rattle.warm_history.specs.Histories.{HistoryView, StandsFor, history_of_entries_at}
+use Rattle.warm_history.specs.Histories.{HistoryView, StandsFor}
 use Rattle.warm_history.specs.Histories.{references_of}
 use Rattle.warm_rank.specs.Laws.{IsFarthest}
 use Rattle.warm_frames.specs.declared.message.Message.{Message}
@@ -23,29 +23,28 @@ use Rattle.warm_gossip.specs.State.{NodeState}
 use Rattle.warm_gossip.specs.Victims.{IsEvicted}
 use Rattle.warm_shards.specs.Shards.{AreShards, shard_at, whole}
 use Rattle.warm_visits.specs.ShardNumbers.{IsShardCount, of_first_shards}
-use Rattle.warm_concurrent.specs.declared.answering.Offered.{Offered}
+use Rattle.warm_visits.specs.Visits.{VisitState, absorb_visit, copy_visit, join_visit, offer_visit}
+use Rattle.warm_visits.specs.Visits.{receive_visit}
 use Rattle.warm_shard_machine.specs.declared.calls.ShardCall.{ShardCall}
-use Rattle.warm_shard_machine.specs.declared.calls.ShardCall.TheVariants.{Absorb, Raise, Pin, Look}
+use Rattle.warm_shard_machine.specs.declared.calls.ShardCall.TheVariants.{Raise, Pin, Look}
 use Rattle.warm_shard_machine.specs.declared.calls.ShardCall.TheVariants.{Change, PinFilled}
-use Rattle.warm_shard_machine.specs.declared.calls.ShardCall.TheVariants.{PinZeroed, TakeIn, Victim}
-use Rattle.warm_shard_machine.specs.declared.calls.ShardCall.TheVariants.{WarmStep}
+use Rattle.warm_shard_machine.specs.declared.calls.ShardCall.TheVariants.{PinZeroed, Victim}
+use Rattle.warm_shard_machine.specs.declared.calls.ShardCall.TheVariants.{Enter, WarmStep}
 use Rattle.warm_shard_machine.specs.declared.calls.ShardReply.{ShardReply}
-use Rattle.warm_shard_machine.specs.declared.calls.ShardReply.TheVariants.{Done, Kept, Page}
+use Rattle.warm_shard_machine.specs.declared.calls.ShardReply.TheVariants.{Done, Entered, Kept}
+use Rattle.warm_shard_machine.specs.declared.calls.ShardReply.TheVariants.{Page}
 use Rattle.warm_concurrent.specs.declared.fault.SharedFault.{SharedFault}
-use Rattle.warm_concurrent.specs.declared.gossip.NotReceived.{NotReceived}
-use Rattle.warm_concurrent.specs.declared.gossip.NotReceived.TheVariants.{Raising, Taking}
-use Rattle.warm_concurrent.specs.Answering.{AnswersFirst, OffersFirst}
-use Rattle.warm_concurrent.specs.Attached.{Known, ShardPass, ShardTurn, known_of, shard_turn}
+use Rattle.warm_concurrent.specs.Attached.{Known, ShardPass, ShardTurn, known_of, opened_id}
+use Rattle.warm_concurrent.specs.Attached.{shard_turn}
 use Rattle.warm_concurrent.specs.Clauses.{AnsweredByShard, CallFails}
-use Rattle.warm_concurrent.specs.Copying.{CopiesFirst}
-use Rattle.warm_concurrent.specs.Gossip.{ReceiveStops, ShardsReceive}
 use Rattle.warm_concurrent.specs.Laws.{all_of}
 use Rattle.warm_concurrent.specs.Opening.{AreClosed, AreFirst, AreHalved, PassesAreJoined, AreSplit}
 use Rattle.warm_concurrent.specs.Opening.{openings, shards_over}
+use Rattle.warm_shard_machine.specs.Entering.{gave_entry}
 use Rattle.warm_shard_machine.specs.Laws.{Log}
 use Rattle.warm_shard_machine.specs.ShardSteps.{ShardState, ShardStep}
-use Rattle.warm_concurrent.specs.Whole.{AbsorbFails, AbsorbsFirst, DoneFirst, JoinFails, JoinsFirst}
-use Rattle.warm_concurrent.specs.Whole.{RaiseFails, RaisesFirst}
+use Rattle.warm_concurrent.specs.Visiting.{GoesByTurns, IsGoneThrough, VisitFails}
+use Rattle.warm_concurrent.specs.Whole.{DoneFirst, RaiseFails, RaisesFirst}
 
 -- Sets of references
 
@@ -65,12 +64,10 @@ only_horizon time = record { horizon = time; given = [] }
 abbrev pub log_at : List Log → ℕ → Log
 log_at logs i = slice_index_or logs i []
 
--- what a call with this reply gave its shard: the references of a batch, a horizon, or the
--- references and the horizon of entries
+-- what a call with this reply gave its shard: a horizon, or what an errand of a visit gives
 abbrev pub gave_call : ShardCall → ShardReply → ReferenceSet
-gave_call (Absorb batch) Done = set_of_list batch
 gave_call (Raise time) (Kept horizon) = only_horizon time
-gave_call (TakeIn horizon entries) Done = references_of (history_of_entries_at horizon entries)
+gave_call (Enter count number v) (Entered w) = gave_entry v w
 gave_call call reply = set_of_list []
 
 -- what these calls gave their shard
@@ -140,49 +137,50 @@ abbrev pub given_to_first : ℕ → ℕ → ReferenceSet → ReferenceSet
 given_to_first count zero S = set_of_list []
 given_to_first count (suc k) S = of_first_shards count (suc k) S
 
--- how many of `count` shards have their part of a message whose receipt stopped for this reason
-abbrev pub shards_given : ℕ → NotReceived → ℕ
-shards_given count (Raising at) = at.shard
-shards_given count (Taking at) = at.shard
-shards_given count why = count
+-- What a visit gave that first brings all shards the horizon of S, and then each its part, and that
+-- stopped at shard k: the horizon, to the shards before; or the horizon, to all, and their parts, to
+-- the shards before.
+abbrev pub HasGivenUpTo : ℕ → ReferenceSet → List ShardPass → List ShardPass → Type 0
+HasGivenUpTo k S old new = HasGiven (given_to_first (length old) k (only_horizon S.horizon)) old new
+    ⊎ HasGiven (only_horizon S.horizon ∪ given_to_first (length old) k S) old new
 
 -- What a thread's call gave: the batch that it absorbed, the horizon that it raised, or the
 -- references and the horizon of the message that it received, or of the history that it joined; of
--- each of these that stopped at a shard, just the parts of the shards before; and what any other
--- call of one shard gave that one. A call of one shard that was refused gave nothing, and neither did
--- any other call of several shards. One of these that stops at a shard is such a call of the shards
--- before, and one that is refused.
+-- each of these that stopped at a shard, just the parts of the shards before, and of the last two the
+-- horizon; and what any other call of one shard gave that one. A call of one shard that was refused
+-- gave nothing, and neither did any other call of several shards, however far it went. One of these
+-- that is no visit and stops at a shard is such a call of the shards before, and one that is refused.
 pub record CallsAreGiven (old new : List ShardPass) : Type 0 where
-  pub absorbed : (batch : List Reference) → AbsorbsFirst batch (length old) old new
+  pub absorbed : (id : ℕ) (batch : List Reference)
+      → IsGoneThrough (absorb_visit id (length old) batch) old new
       → HasGiven (set_of_list batch) old new
-  pub batch_stopped : (batch : List Reference) (k : ℕ) (why : SharedFault)
-      → AbsorbFails batch k why old new
+  pub batch_stopped : (id : ℕ) (batch : List Reference) (k : ℕ) (why : SharedFault)
+      → VisitFails (absorb_visit id (length old) batch) k why old new
       → HasGiven (given_to_first (length old) k (set_of_list batch)) old new
   pub raised : (time : ℕ) → RaisesFirst time (length old) old new
       → HasGiven (only_horizon time) old new
   pub raise_stopped : (time k : ℕ) (why : SharedFault) → RaiseFails time k why old new
       → HasGiven (given_to_first (length old) k (only_horizon time)) old new
-  pub received : (message : Message) (answers : List Message)
-      → ShardsReceive message answers old new
+  pub received : (id : ℕ) (message : Message)
+      → IsGoneThrough (receive_visit id (length old) message) old new
       → HasGiven (refs_in message) old new
-  pub receipt_stopped : (message : Message) (why : NotReceived) → ReceiveStops message why old new
-      → HasGiven (given_to_first (length old) (shards_given (length old) why) (refs_in message))
-      old new
-  pub joined : (h : HistoryView) → JoinsFirst h (length old) old new
+  pub receipt_stopped : (id : ℕ) (message : Message) (k : ℕ) (why : SharedFault)
+      → VisitFails (receive_visit id (length old) message) k why old new
+      → HasGivenUpTo k (refs_in message) old new
+  pub joined : (id : ℕ) (h : HistoryView) → IsGoneThrough (join_visit id (length old) h) old new
       → HasGiven (references_of h) old new
-  pub join_stopped : (h : HistoryView) (k : ℕ) (why : SharedFault) → JoinFails h k why old new
-      → HasGiven (given_to_first (length old) k (references_of h)) old new
+  pub join_stopped : (id : ℕ) (h : HistoryView) (k : ℕ) (why : SharedFault)
+      → VisitFails (join_visit id (length old) h) k why old new
+      → HasGivenUpTo k (references_of h) old new
   pub called : (i : ℕ) (call : ShardCall) (reply : ShardReply) → i < length old
       → AnsweredByShard old i call reply new → HasGiven (gave_call call reply) old new
   pub refused : (i : ℕ) (call : ShardCall) (why : SharedFault) → i < length old
       → CallFails old i call why new → HasGivenNothing old new
   pub done : (call : ShardCall) (k : ℕ) → gave_call call Done ≡ set_of_list []
       → DoneFirst call k old new → HasGivenNothing old new
-  pub offered : (offers : List Offered) (k : ℕ) → OffersFirst offers k old new
+  pub offered : (id : ℕ) (w : VisitState) → GoesByTurns (offer_visit id (length old)) old w new
       → HasGivenNothing old new
-  pub answered : (request : ℕ) (parts : List (List Message)) (k : ℕ)
-      → AnswersFirst request parts k old new → HasGivenNothing old new
-  pub copied : (copies : List HistoryView) (k : ℕ) → CopiesFirst copies k old new
+  pub copied : (id : ℕ) (w : VisitState) → GoesByTurns (copy_visit id (length old)) old w new
       → HasGivenNothing old new
 
 -- each call of a thread, over any number of shards, gives what `CallsAreGiven` says
@@ -199,9 +197,10 @@ TwoThreadsAreHeld = (S : ReferenceSet) (opened : List NodeState) (turns : List S
     (first here there mine yours all : List ShardPass) (one two : List Reference)
     (results : List (Result NodeState Busy)) → AreShards opened
     → openings turns ≡ shards_over opened → StandsFor (whole opened) S → AreFirst turns first
-    → AreHalved first here → AreSplit first there → AbsorbsFirst one (length turns) here mine
-    → AbsorbsFirst two (length turns) there yours → PassesAreJoined mine yours all
-    → AreClosed turns all results
+    → AreHalved first here → AreSplit first there
+    → IsGoneThrough (absorb_visit (opened_id turns) (length turns) one) here mine
+    → IsGoneThrough (absorb_visit (opened_id turns) (length turns) two) there yours
+    → PassesAreJoined mine yours all → AreClosed turns all results
     → (nodes : List NodeState) × (results ≡ map (λ n. Ok n) nodes)
     × StandsFor (whole nodes) (S ∪ (set_of_list one ∪ set_of_list two))
 

@@ -5,21 +5,18 @@ use Rattle.warm_history.specs.ReferenceSets.{ReferenceSet, set_of_list, ◌∪�
 use Rattle.warm_history.specs.Histories.{HistoryView, StandsFor, history, references_of}
 use Rattle.warm_machine.specs.declared.operation.Operation.{Operation}
 use Rattle.warm_machine.specs.Runs.{Runs}
-use Rattle.warm_frames.specs.declared.message.Message.{Message}
 use Rattle.warm_gossip.specs.State.{NodeState}
 use Rattle.warm_shards.specs.Shards.{AreShards, HoldsShard}
-use Rattle.warm_stamps.specs.declared.Reference.{Reference}
-use Rattle.warm_concurrent.specs.declared.answering.Offered.{Offered}
+use Rattle.warm_visits.specs.Visits.{VisitState}
 use Rattle.warm_shard_machine.specs.declared.calls.ShardCall.{ShardCall}
 use Rattle.warm_shard_machine.specs.declared.calls.ShardReply.{ShardReply}
 use Rattle.warm_concurrent.specs.declared.fault.SharedFault.{SharedFault}
-use Rattle.warm_concurrent.specs.Answering.{AnswersFirst, OffersFirst}
 use Rattle.warm_concurrent.specs.Attached.{Known, ShardPass, ShardTurn, known_of}
 use Rattle.warm_concurrent.specs.Clauses.{AnsweredByShard, CallFails}
-use Rattle.warm_concurrent.specs.Copying.{CopiesFirst}
 use Rattle.warm_concurrent.specs.Opening.{ClosesShard, PassesAreJoined, shards_over, state_at}
 use Rattle.warm_shard_machine.specs.ShardSteps.{ShardState, ShardStep}
-use Rattle.warm_concurrent.specs.Whole.{AbsorbsFirst, DoneFirst, RaisesFirst, TakesFirst}
+use Rattle.warm_concurrent.specs.Visiting.{GoesByTurns}
+use Rattle.warm_concurrent.specs.Whole.{DoneFirst, RaisesFirst}
 
 -- The pages of a shard
 
@@ -68,26 +65,17 @@ abbrev pub SeesMore : List ShardPass → List ShardPass → Type 0
 SeesMore old new = (i : ℕ) → i < length old → IsPrefix (known_of old i).seen (known_of new i).seen
 
 -- `So` holds of what a thread has, before and after each call of one shard, even if it is refused,
--- and each call of several shards. A call of several shards that stops at one is such a call of the
--- shards before, and a refused call of that one.
+-- each visit, however far it went, and each other call of several shards. One of these that stops at
+-- a shard is such a call of the shards before, and a refused call of that one.
 pub record OverCalls (So : List ShardPass → List ShardPass → Type 0) : Type 0 where
   pub called : (old new : List ShardPass) (i : ℕ) (call : ShardCall) (reply : ShardReply)
       → i < length old → AnsweredByShard old i call reply new → So old new
   pub refused : (old new : List ShardPass) (i : ℕ) (call : ShardCall) (why : SharedFault)
       → i < length old → CallFails old i call why new → So old new
-  pub absorbed : (old new : List ShardPass) (k : ℕ) (batch : List Reference)
-      → AbsorbsFirst batch k old new → So old new
+  pub visited : (old new : List ShardPass) (v w : VisitState) → GoesByTurns v old w new → So old new
   pub raised : (old new : List ShardPass) (k time : ℕ) → RaisesFirst time k old new → So old new
-  pub taken : (old new : List ShardPass) (k : ℕ) (message : Message) → TakesFirst message k old new
-      → So old new
   pub done : (old new : List ShardPass) (k : ℕ) (call : ShardCall) → DoneFirst call k old new
       → So old new
-  pub offered : (old new : List ShardPass) (offers : List Offered) (k : ℕ)
-      → OffersFirst offers k old new → So old new
-  pub answered : (old new : List ShardPass) (request : ℕ) (parts : List (List Message)) (k : ℕ)
-      → AnswersFirst request parts k old new → So old new
-  pub copied : (old new : List ShardPass) (copies : List HistoryView) (k : ℕ)
-      → CopiesFirst copies k old new → So old new
 
 -- whatever a thread calls, it has then seen of each shard what it had seen, and maybe more
 pub record OnlySeesMore : Type 0 where

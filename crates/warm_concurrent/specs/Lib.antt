@@ -2,11 +2,11 @@ pub mod Attached
 pub mod Clauses
 pub mod Faults
 pub mod Opening
+pub mod Visiting
 pub mod Whole
 pub mod Laws
 pub mod Rights
 pub mod Given
-pub mod Answering
 pub mod Raising
 pub mod Copying
 pub mod Retiring

@@ -28,29 +28,25 @@ use Rattle.std.specs.List.{flat_map, sum_by}
 use Rattle.warm_turn.specs.declared.fault.Busy.{Busy}
 use Rattle.warm_pool.specs.State.{IsPool}
 use Rattle.warm_pool.specs.View.{IsUnfixed, view_of}
-use Rattle.warm_frames.specs.declared.message.Message.{Message}
 use Rattle.warm_pool.specs.declared.slot.Slot.{Slot}
 use Rattle.warm_stamps.specs.declared.PageId.{PageId}
-use Rattle.warm_stamps.specs.declared.Reference.{Reference}
-use Rattle.warm_history.specs.Histories.{HistoryView}
 use Rattle.warm_gossip.specs.State.{NodeState}
 use Rattle.warm_shards.specs.Shards.{shard_at}
-use Rattle.warm_concurrent.specs.declared.answering.Offered.{Offered}
+use Rattle.warm_visits.specs.Visits.{VisitState}
 use Rattle.warm_shard_machine.specs.declared.calls.ShardCall.{ShardCall}
 use Rattle.warm_shard_machine.specs.declared.calls.ShardCall.TheVariants.{Pin, Unpin}
 use Rattle.warm_shard_machine.specs.declared.calls.ShardReply.{ShardReply}
 use Rattle.warm_shard_machine.specs.declared.calls.ShardReply.TheVariants.{Done, Pinned}
 use Rattle.warm_concurrent.specs.declared.fault.SharedFault.{SharedFault}
-use Rattle.warm_concurrent.specs.Answering.{AnswersFirst, OffersFirst}
 use Rattle.warm_concurrent.specs.Attached.{AreOf, AttachedView, Known, ShardPass, ShardTurn}
 use Rattle.warm_concurrent.specs.Clauses.{AnsweredByShard, CallFails}
-use Rattle.warm_concurrent.specs.Copying.{CopiesFirst}
 use Rattle.warm_shard_machine.specs.Laws.{Log}
 use Rattle.warm_concurrent.specs.Opening.{AreClosed, AreFirst, AreHalved, AreSplit, PassesAreJoined}
 use Rattle.warm_concurrent.specs.Opening.{openings, shards_over}
 use Rattle.warm_concurrent.specs.Rights.{HasWholeRight}
 use Rattle.warm_shard_machine.specs.Pins.{LeadsTo, pin_by, pins_by, pool_pins, unpin_by, unpins_by}
-use Rattle.warm_concurrent.specs.Whole.{AbsorbsFirst, DoneFirst, RaisesFirst, TakesFirst}
+use Rattle.warm_concurrent.specs.Visiting.{GoesByTurns}
+use Rattle.warm_concurrent.specs.Whole.{DoneFirst, RaisesFirst}
 
 -- Nodes
 
@@ -81,26 +77,18 @@ pub record HasPinned (given removed : ℕ) (old new : List ShardPass) : Type 0 w
   pub pins : pins_by (thread_calls new) ≡ pins_by (thread_calls old) + given
   pub unpins : unpins_by (thread_calls new) ≡ unpins_by (thread_calls old) + removed
 
--- A call of one shard gives and removes what its reply says, and none if it is refused. Calls of
--- several shards give and remove none: those too that stop at a shard, which are such calls and one
--- that is refused.
+-- A call of one shard gives and removes what its reply says, and none if it is refused. Visits give
+-- and remove none, however far they went, and neither do other calls of several shards: those too
+-- that stop at a shard, which are such calls and one that is refused.
 pub record CallsPin (old new : List ShardPass) : Type 0 where
   pub called : (i : ℕ) (call : ShardCall) (reply : ShardReply) → i < length old
       → AnsweredByShard old i call reply new
       → HasPinned (pin_by call reply) (unpin_by call reply) old new
   pub refused : (i : ℕ) (call : ShardCall) (why : SharedFault) → i < length old
       → CallFails old i call why new → HasPinned 0 0 old new
-  pub absorbed : (batch : List Reference) (k : ℕ) → AbsorbsFirst batch k old new
-      → HasPinned 0 0 old new
+  pub visited : (v w : VisitState) → GoesByTurns v old w new → HasPinned 0 0 old new
   pub raised : (time k : ℕ) → RaisesFirst time k old new → HasPinned 0 0 old new
-  pub taken : (message : Message) (k : ℕ) → TakesFirst message k old new → HasPinned 0 0 old new
   pub done : (call : ShardCall) (k : ℕ) → unpin_by call Done ≡ 0 → DoneFirst call k old new
-      → HasPinned 0 0 old new
-  pub offered : (offers : List Offered) (k : ℕ) → OffersFirst offers k old new
-      → HasPinned 0 0 old new
-  pub answered : (request : ℕ) (parts : List (List Message)) (k : ℕ)
-      → AnswersFirst request parts k old new → HasPinned 0 0 old new
-  pub copied : (copies : List HistoryView) (k : ℕ) → CopiesFirst copies k old new
       → HasPinned 0 0 old new
 
 -- A count that was right and changes as the calls do is right. So it stays right from `share` on:

@@ -1,21 +1,12 @@
 -- Calls of the whole: shard by shard, in the order of their numbers.
-use Rattle.std.specs.Prelude.{◌≡◌, ◌≢◌, ◌⊎◌, ℕ, ◌<◌, ◌≤◌, List, [], length}
-use Rattle.std.specs.Global.{Vec}
-use Rattle.warm_stamps.specs.declared.Reference.{Reference}
-use Rattle.warm_history.specs.Histories.{HistoryView, entries_of}
-use Rattle.warm_frames.specs.declared.message.Message.{Message}
-use Rattle.warm_frames.specs.declared.message.Message.TheVariants.{Entries}
-use Rattle.warm_frames.specs.Limits.{entries_in, horizon_in}
-use Rattle.warm_gossip.specs.declared.fault.NodeFault.TheVariants.{Memory}
-use Rattle.warm_visits.specs.Parts.{AreShardParts, part_of_batch, part_of_entries}
-use Rattle.warm_shard_machine.specs.declared.calls.ShardCall.TheVariants.{Absorb, Raise, TakeIn}
-use Rattle.warm_shard_machine.specs.declared.calls.ShardCall.TheVariants.{WritePages, WriteBack}
+use Rattle.std.specs.Prelude.{◌≡◌, ℕ, ◌<◌, ◌≤◌, List, length}
+use Rattle.warm_shard_machine.specs.declared.calls.ShardCall.TheVariants.{Raise, WritePages}
+use Rattle.warm_shard_machine.specs.declared.calls.ShardCall.TheVariants.{WriteBack}
 use Rattle.warm_shard_machine.specs.declared.calls.ShardCall.{ShardCall}
 use Rattle.warm_shard_machine.specs.declared.calls.ShardReply.TheVariants.{Done, Kept}
 use Rattle.warm_concurrent.specs.declared.fault.SharedFault.{SharedFault}
 use Rattle.warm_concurrent.specs.declared.writing.NotWritten.{NotWritten}
 use Rattle.warm_concurrent.specs.declared.writing.NotWritten.TheVariants.{Pages, Devices}
-use Rattle.warm_concurrent.specs.declared.fault.SharedFault.TheVariants.{Node}
 use Rattle.warm_concurrent.specs.Attached.{ShardPass, shard_pass}
 use Rattle.warm_concurrent.specs.Clauses.{CallFails, Got}
 
@@ -25,25 +16,6 @@ pub record First (So : ℕ → ShardPass → ShardPass → Type 0) (k : ℕ) (ol
   pub count : length new ≡ length old
   pub first : (i : ℕ) → i < k → So i (shard_pass old i) (shard_pass new i)
   pub others : (i : ℕ) → k ≤ i → shard_pass new i ≡ shard_pass old i
-
--- a shard absorbed its part of the batch in one turn. If it has none, its turn was not entered
-abbrev pub AbsorbsPart : ℕ → List Reference → ℕ → ShardPass → ShardPass → Type 0
-AbsorbsPart count batch i old new =
-    (part_of_batch count i batch ≡ [] → new ≡ old)
-    × (part_of_batch count i batch ≢ []
-    → Got old.view (Absorb (part_of_batch count i batch)) Done new.view)
-
--- the shards below k have absorbed their parts of the batch, and no other turn was entered
-abbrev pub AbsorbsFirst : List Reference → ℕ → List ShardPass → List ShardPass → Type 0
-AbsorbsFirst batch k old new = First (AbsorbsPart (length old) batch) k old new
-
--- Each shard below k has its part of the batch. The shard k has a part, and refused it or found no
--- ticket; or no memory was left for the parts, and nothing has changed. The others are unchanged.
-abbrev pub AbsorbFails : List Reference → ℕ → SharedFault → List ShardPass → List ShardPass → Type 0
-AbsorbFails batch k why old new = ((k ≡ 0) × (why ≡ Node Memory) × (new ≡ old))
-    ⊎ ((mid : List ShardPass) × (k < length old) × (part_of_batch (length old) k batch ≢ [])
-    × AbsorbsFirst batch k old mid
-    × CallFails mid k (Absorb (part_of_batch (length old) k batch)) why new)
 
 -- a shard forgot all stamps before this time
 abbrev pub RaisesShard : ℕ → ℕ → ShardPass → ShardPass → Type 0
@@ -57,45 +29,6 @@ RaisesFirst time k old new = First (RaisesShard time) k old new
 abbrev pub RaiseFails : ℕ → ℕ → SharedFault → List ShardPass → List ShardPass → Type 0
 RaiseFails time k why old new = (mid : List ShardPass) × (k < length old)
     × RaisesFirst time k old mid × CallFails mid k (Raise time) why new
-
--- what a message asks of the shard of this number, of this many: to take in its part of the message
-abbrev pub part_call : ℕ → Message → ℕ → ShardCall
-part_call count message i = TakeIn (horizon_in message)
-    (part_of_entries count i (entries_in message))
-
--- a shard took in its part of the message, in one turn
-abbrev pub TakesPart : ℕ → Message → ℕ → ShardPass → ShardPass → Type 0
-TakesPart count message i old new = Got old.view (part_call count message i) Done new.view
-
--- the shards below k have taken in their parts of the message, and no other turn was entered
-abbrev pub TakesFirst : Message → ℕ → List ShardPass → List ShardPass → Type 0
-TakesFirst message k old new = First (TakesPart (length old) message) k old new
-
--- Each shard below k has its part of the message. No memory was left for that of the shard k, or
--- this shard refused it, or found no ticket. The others are unchanged.
-abbrev pub TakeFails : Message → ℕ → SharedFault → List ShardPass → List ShardPass → Type 0
-TakeFails message k why old new = (mid : List ShardPass) × (k < length old)
-    × TakesFirst message k old mid
-    × (((why ≡ Node Memory) × (new ≡ mid))
-    ⊎ CallFails mid k (part_call (length old) message k) why new)
-
--- the message that would bring all that a history says
-abbrev pub history_message : HistoryView → Message
-history_message h = Entries 0 h.horizon (entries_of h)
-
--- the shards below k have taken in their parts of a history, as of the message that would bring it,
--- and no other turn was entered
-abbrev pub JoinsFirst : HistoryView → ℕ → List ShardPass → List ShardPass → Type 0
-JoinsFirst h k old new = TakesFirst (history_message h) k old new
-
--- Each shard below k has its part of the history. The shard k did not take its own in. The others
--- are unchanged.
-abbrev pub JoinFails : HistoryView → ℕ → SharedFault → List ShardPass → List ShardPass → Type 0
-JoinFails h k why old new = TakeFails (history_message h) k why old new
-
--- these are the parts of a batch, of each shard its own
-abbrev pub ArePartsOf : ℕ → List Reference → List (Vec Reference) → Type 0
-ArePartsOf shards batch parts = AreShardParts (λ (r : Reference). r.page) shards batch parts
 
 -- Writing back
 

@@ -4,78 +4,21 @@ ghost use Rattle.std.specs.Prelude.{◌≡◌, ◌<◌, length, IfErr, IfOk};
 ghost use Rattle.warm_history.specs.Histories.{references_of};
 ghost use Rattle.warm_peer.specs.Answers.{IsAnswer};
 ghost use Rattle.warm_rank.specs.Ranking.{hottest_pages};
-ghost use Rattle.warm_concurrent.specs.Attached.{AreOf, AreTurns};
-ghost use Rattle.warm_concurrent.specs.Clauses.{CallEnds};
+ghost use Rattle.warm_concurrent.specs.Attached.{AreOf, opened_id};
 ghost use Rattle.warm_concurrent.specs.Copying.{AnswersByCopy, CopiesAll, CopyFails, ListsAll};
-ghost use Rattle.warm_shard_machine.specs.declared.calls.ShardCall.TheVariants.{CopyHistory};
-ghost use Rattle.warm_shard_machine.specs.declared.calls.ShardReply.TheVariants.{Copied};
 
-use crate::fault::SharedFault;
-use crate::history_calls::Stopped;
-use crate::shared::{Attached, SharedShards, call_shard};
+use crate::shared::{Attached, SharedShards};
+use crate::visiting::Stopped;
 use std::alloc::{AllocError, Global};
 use std::sync::Wait;
 use warm_devices::PageDevice;
 use warm_frames::{Message, MessageList};
-use warm_gossip::NodeFault;
 use warm_history::History;
 use warm_history::laws::prove_is_history;
 use warm_peer::Peer;
 use warm_rank::warm_list;
-use warm_shard_machine::{BoxedHistory, Shard, ShardCall, ShardReply};
+use warm_visits::Visit;
 use warm_stamps::{PageList, ReplicaId};
-use warm_turn::{Pass, Turn};
-
-// Has one shard copy its history.
-fn copy_in<D: PageDevice + Send, R: Wait>(
-    rt: &R,
-    turns: &Vec<Turn<Shard<D>>>,
-    passes: &mut Vec<Pass<Shard<D>>>,
-    shard: usize,
-) -> Result<BoxedHistory, SharedFault>
-    requires turns { AreTurns turns.now.items }
-    requires passes { AreOf turns.now.items passes.old.items }
-    requires there { shard < length turns.now.items }
-    ensures passes { AreOf turns.now.items passes.new.items }
-    ensures ends { CallEnds passes.old.items shard CopyHistory Copied result passes.new.items }
-{
-    match call_shard(rt, turns, passes, shard, ShardCall::CopyHistory)? {
-        ShardReply::Copied(history) => Ok(history),
-        ShardReply::Refused(why) => Err(SharedFault::Node(why)),
-        _ => unreachable!(),
-    }
-}
-
-// Has each shard copy its history, and joins the copies.
-fn copy_all<D: PageDevice + Send, R: Wait>(
-    rt: &R,
-    alloc: Global,
-    turns: &Vec<Turn<Shard<D>>>,
-    passes: &mut Vec<Pass<Shard<D>>>,
-) -> Result<History, Stopped>
-    requires turns { AreTurns turns.now.items }
-    requires passes { AreOf turns.now.items passes.old.items }
-    ensures passes { AreOf turns.now.items passes.new.items }
-    ensures copied { IfOk result (λ copy. CopiesAll copy passes.old.items passes.new.items) }
-    ensures stopped { IfErr result (λ at. CopyFails at.shard at.fault passes.old.items
-        passes.new.items) }
-{
-    let mut all = History::new(alloc);
-    let count = turns.len();
-    for shard in 0..count {
-        let part = match copy_in(rt, turns, passes, shard) {
-            Ok(part) => part,
-            Err(fault) => return Err(Stopped { fault, shard }),
-        };
-        if let Err(_refused) = all.join(part.as_history()) {
-            return Err(Stopped {
-                fault: SharedFault::Node(NodeFault::Memory),
-                shard: shard + 1,
-            });
-        }
-    }
-    Ok(all)
-}
 
 // The n hottest pages of a history.
 fn hottest_of(alloc: Global, history: &History, n: usize) -> Result<PageList, AllocError>
@@ -113,14 +56,13 @@ fn answer_of(
 }
 
 impl<D: PageDevice + Send> SharedShards<D> {
-    /// A copy of the history of all shards: each shard copies its own in one turn, in the order of
-    /// the shards, in which the call `CopyHistory` is answered, and the copy is their join. A dump
-    /// of it is a dump of the replica. Of what other threads give meanwhile it has what was in a
-    /// shard at that shard's turn.
+    /// A copy of the history of all shards: each shard's own is joined to it in one turn, in the
+    /// order of the shards. A dump of it is a dump of the replica. Of what other threads give
+    /// meanwhile it has what was in a shard at that shard's turn.
     ///
     /// # Errors
-    /// `TurnsSpent`, or `Node(Memory)` if an allocation failed: in a shard, whose number the error
-    /// has, or as the copies were joined. Nothing has changed in any shard.
+    /// `TurnsSpent`, or `Node(Memory)` if no memory was left for what the shard has whose number the
+    /// error has. Nothing has changed in any shard.
     pub fn history<R: Wait>(
         &self,
         rt: &R,
@@ -130,12 +72,18 @@ impl<D: PageDevice + Send> SharedShards<D> {
         requires { AreOf self.now attached.old.passes }
         ensures attached { AreOf self.now attached.new.passes }
         ensures copied { IfOk result (λ copy.
-            CopiesAll copy attached.old.passes attached.new.passes) }
-        ensures stopped { IfErr result (λ at.
-            CopyFails at.shard at.fault attached.old.passes attached.new.passes) }
+            CopiesAll (opened_id self.now) copy attached.old.passes attached.new.passes) }
+        ensures stopped { IfErr result (λ at. CopyFails (opened_id self.now) at.shard at.fault
+            attached.old.passes attached.new.passes) }
         ensures pins { attached.new.pins ≡ attached.old.pins }
     {
-        let copy = copy_all(rt, alloc, &self.turns, &mut attached.passes)?;
+        let Ok(visit) = Visit::copy(alloc, self.id(), self.count()) else {
+            return Err(Stopped::before_all());
+        };
+        let after = self.go_through(rt, attached, visit)?;
+        let Some(copy) = after.into_copy() else {
+            unreachable!()
+        };
         Ok(copy)
     }
 
@@ -156,26 +104,22 @@ impl<D: PageDevice + Send> SharedShards<D> {
         requires { AreOf self.now attached.old.passes }
         ensures attached { AreOf self.now attached.new.passes }
         ensures listed { IfOk result (λ pages.
-            ListsAll n pages attached.old.passes attached.new.passes) }
-        ensures stopped { IfErr result (λ at.
-            CopyFails at.shard at.fault attached.old.passes attached.new.passes) }
+            ListsAll (opened_id self.now) n pages attached.old.passes attached.new.passes) }
+        ensures stopped { IfErr result (λ at. CopyFails (opened_id self.now) at.shard at.fault
+            attached.old.passes attached.new.passes) }
         ensures pins { attached.new.pins ≡ attached.old.pins }
     {
         let copy = self.history(rt, alloc, attached)?;
         let Ok(pages) = hottest_of(alloc, &copy, n) else {
-            return Err(Stopped {
-                fault: SharedFault::Node(NodeFault::Memory),
-                shard: self.count(),
-            });
+            return Err(Stopped::after_all(self.count()));
         };
         Ok(pages)
     }
 
     /// The messages with which a replica would answer this one that has the history of all shards,
     /// as [`warm_shards::Shards::answers`] of shards that no thread shares. The history is that of
-    /// [`SharedShards::history`]: each shard copies its own in one turn, in the order of the shards,
-    /// in which the call `CopyHistory` is answered. No shard takes the message in, or forgets
-    /// anything. The copy is in memory twice until the answer is made.
+    /// [`SharedShards::history`]. No shard takes the message in, or forgets anything. The copy is in
+    /// memory twice until the answer is made.
     ///
     /// # Errors
     /// Those of `history`; and `Node(Memory)` if no memory was left for the answer. Its number is
@@ -191,16 +135,13 @@ impl<D: PageDevice + Send> SharedShards<D> {
         ensures attached { AreOf self.now attached.new.passes }
         ensures answers { IfOk result (λ answers. AnswersByCopy self.now message.now answers
             attached.old.passes attached.new.passes) }
-        ensures stopped { IfErr result (λ at.
-            CopyFails at.shard at.fault attached.old.passes attached.new.passes) }
+        ensures stopped { IfErr result (λ at. CopyFails (opened_id self.now) at.shard at.fault
+            attached.old.passes attached.new.passes) }
         ensures pins { attached.new.pins ≡ attached.old.pins }
     {
         let copy = self.history(rt, alloc, attached)?;
         let Ok(answers) = answer_of(alloc, self.id(), &copy, message) else {
-            return Err(Stopped {
-                fault: SharedFault::Node(NodeFault::Memory),
-                shard: self.count(),
-            });
+            return Err(Stopped::after_all(self.count()));
         };
         Ok(answers)
     }

@@ -10,17 +10,17 @@ ghost use Rattle.warm_shard_machine.specs.declared.calls.ShardReply.TheVariants.
 ghost use Rattle.warm_concurrent.specs.declared.fault.SharedFault.TheVariants.{PinsFull};
 
 use crate::fault::SharedFault;
-use crate::history_calls::Stopped;
 use crate::pool_calls::do_in;
 use crate::shared::{Attached, SharedShards, call_shard};
+use crate::visiting::Stopped;
 use std::sync::Wait;
 use warm_devices::PageDevice;
 use warm_pool::Slot;
 use warm_shard_machine::{Shard, ShardCall, ShardReply};
 use warm_shards::ShardSlot;
+use warm_visits::shard_of;
 use warm_stamps::PageId;
 use warm_turn::{Pass, Turn};
-use warm_visits::shard_of;
 
 // Pins a page in its shard, and fills it with zeros.
 fn pin_zeroed_in<D: PageDevice + Send, R: Wait>(

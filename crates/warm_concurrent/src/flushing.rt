@@ -5,11 +5,12 @@
 //! call of [`SharedShards`] is the worker's.
 ghost use Rattle.std.specs.Prelude.{◌≡◌, length, IfErr, OnErr, OnOk};
 ghost use Rattle.warm_refbuffer.specs.Buffered.{cleared};
-ghost use Rattle.warm_concurrent.specs.Attached.{AreOf};
-ghost use Rattle.warm_concurrent.specs.Whole.{AbsorbFails, AbsorbsFirst};
+ghost use Rattle.warm_visits.specs.Visits.{absorb_visit};
+ghost use Rattle.warm_concurrent.specs.Attached.{AreOf, opened_id};
+ghost use Rattle.warm_concurrent.specs.Visiting.{IsGoneThrough, VisitFails};
 
-use crate::history_calls::{Stopped, absorb_all};
 use crate::shared::{Attached, SharedShards};
+use crate::visiting::Stopped;
 use std::alloc::Global;
 use std::sync::Wait;
 use warm_devices::PageDevice;
@@ -31,15 +32,17 @@ impl<D: PageDevice + Send> SharedShards<D> {
     ) -> Result<(), Stopped>
         requires { AreOf self.now attached.old.passes }
         ensures attached { AreOf self.now attached.new.passes }
-        ensures absorbed { OnOk result (AbsorbsFirst buffer.old.refs (length self.now)
+        ensures absorbed { OnOk result (IsGoneThrough
+            (absorb_visit (opened_id self.now) (length self.now) buffer.old.refs)
             attached.old.passes attached.new.passes) }
-        ensures stopped { IfErr result (λ at. AbsorbFails buffer.old.refs at.shard at.fault
-            attached.old.passes attached.new.passes) }
+        ensures stopped { IfErr result (λ at. VisitFails
+            (absorb_visit (opened_id self.now) (length self.now) buffer.old.refs)
+            at.shard at.fault attached.old.passes attached.new.passes) }
         ensures emptied { OnOk result (buffer.new ≡ cleared buffer.old) }
         ensures kept { OnErr result (buffer.new ≡ buffer.old) }
         ensures pins { attached.new.pins ≡ attached.old.pins }
     {
-        absorb_all(rt, alloc, &self.turns, &mut attached.passes, buffer.refs())?;
+        self.absorb(rt, alloc, attached, buffer.refs())?;
         buffer.clear();
         Ok(())
     }

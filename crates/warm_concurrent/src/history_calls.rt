@@ -1,93 +1,25 @@
 //! The calls that take references in and forget them, shard by shard, and list a shard's hottest
 //! pages.
 ghost use Rattle.std.specs.Prelude.{◌≡◌, ◌<◌, length, IfErr, IfOk, OnOk};
-ghost use Rattle.warm_concurrent.specs.Attached.{AreOf, AreTurns};
+ghost use Rattle.warm_visits.specs.Visits.{absorb_visit};
+ghost use Rattle.warm_concurrent.specs.Attached.{AreOf, AreTurns, opened_id};
 ghost use Rattle.warm_concurrent.specs.Clauses.{CallEnds};
 ghost use Rattle.warm_shard_machine.specs.declared.calls.ShardCall.TheVariants.{Raise, WarmList};
 ghost use Rattle.warm_shard_machine.specs.declared.calls.ShardReply.TheVariants.{Kept, Pages};
 ghost use Rattle.warm_concurrent.specs.Raising.{RaisesAll};
-ghost use Rattle.warm_concurrent.specs.Whole.{AbsorbFails, AbsorbsFirst, ArePartsOf, RaiseFails};
-ghost use Rattle.warm_concurrent.specs.Whole.{RaisesFirst};
+ghost use Rattle.warm_concurrent.specs.Visiting.{IsGoneThrough, VisitFails};
+ghost use Rattle.warm_concurrent.specs.Whole.{RaiseFails, RaisesFirst};
 
 use crate::fault::SharedFault;
-use crate::pool_calls::do_in;
 use crate::shared::{Attached, SharedShards, call_shard};
+use crate::visiting::Stopped;
 use std::alloc::Global;
 use std::sync::Wait;
 use warm_devices::PageDevice;
-use warm_gossip::NodeFault;
 use warm_shard_machine::{Shard, ShardCall, ShardReply};
-use warm_stamps::{PageList, RefList, Reference};
+use warm_visits::Visit;
+use warm_stamps::{PageList, Reference};
 use warm_turn::{Pass, Turn};
-use warm_visits::parts_of;
-
-/// Where a call of the whole stopped, and why: the shards before this one have made their part of
-/// it. This one has not, nor have those after it.
-#[derive(Clone, Copy, PartialEq, Eq, Debug)]
-pub struct Stopped {
-    /// Why it stopped.
-    pub fault: SharedFault,
-    /// The number of the first shard that has not made its part.
-    pub shard: usize,
-}
-
-// Each shard that has a part absorbs it, in one turn.
-fn absorb_parts<D: PageDevice + Send, R: Wait>(
-    rt: &R,
-    turns: &Vec<Turn<Shard<D>>>,
-    passes: &mut Vec<Pass<Shard<D>>>,
-    batch: &[Reference],
-    parts: Vec<Vec<Reference>>,
-) -> Result<(), Stopped>
-    requires turns { AreTurns turns.now.items }
-    requires passes { AreOf turns.now.items passes.old.items }
-    requires parts { ArePartsOf (length turns.now.items) batch.now parts.items }
-    ensures passes { AreOf turns.now.items passes.new.items }
-    ensures absorbed { OnOk result (AbsorbsFirst batch.now (length turns.now.items)
-        passes.old.items passes.new.items) }
-    ensures stopped { IfErr result (λ at. AbsorbFails batch.now at.shard at.fault passes.old.items
-        passes.new.items) }
-{
-    let mut shard = 0;
-    for part in parts {
-        if part.is_empty() {
-            shard += 1;
-            continue;
-        }
-        let call = ShardCall::Absorb(RefList::of(part));
-        if let Err(fault) = do_in(rt, turns, passes, shard, call) {
-            return Err(Stopped { fault, shard });
-        }
-        shard += 1;
-    }
-    Ok(())
-}
-
-// Splits a batch, and has each shard that has a part absorb it.
-pub(crate) fn absorb_all<D: PageDevice + Send, R: Wait>(
-    rt: &R,
-    alloc: Global,
-    turns: &Vec<Turn<Shard<D>>>,
-    passes: &mut Vec<Pass<Shard<D>>>,
-    batch: &[Reference],
-) -> Result<(), Stopped>
-    requires turns { AreTurns turns.now.items }
-    requires passes { AreOf turns.now.items passes.old.items }
-    ensures passes { AreOf turns.now.items passes.new.items }
-    ensures absorbed { OnOk result (AbsorbsFirst batch.now (length turns.now.items)
-        passes.old.items passes.new.items) }
-    ensures stopped { IfErr result (λ at. AbsorbFails batch.now at.shard at.fault passes.old.items
-        passes.new.items) }
-{
-    let Ok(parts) = parts_of(alloc, batch, turns.len()) else {
-        return Err(Stopped {
-            fault: SharedFault::Node(NodeFault::Memory),
-            shard: 0,
-        });
-    };
-    absorb_parts(rt, turns, passes, batch, parts)?;
-    Ok(())
-}
 
 // Raises the horizon of one shard.
 fn raise_in<D: PageDevice + Send, R: Wait>(
@@ -161,8 +93,8 @@ fn warm_list_in<D: PageDevice + Send, R: Wait>(
 }
 
 impl<D: PageDevice + Send> SharedShards<D> {
-    /// Adds references to the history: each shard that has a part of the batch absorbs it in one
-    /// turn, in the order of the shards. The batch is read twice.
+    /// Adds references to the history: each shard that has a part of the batch is given it in one
+    /// turn, in the order of the shards. The batch is read once.
     ///
     /// # Errors
     /// `Node(Memory)` at shard 0: no memory was left for the parts; nothing has changed. Otherwise
@@ -179,13 +111,18 @@ impl<D: PageDevice + Send> SharedShards<D> {
     ) -> Result<(), Stopped>
         requires { AreOf self.now attached.old.passes }
         ensures attached { AreOf self.now attached.new.passes }
-        ensures absorbed { OnOk result (AbsorbsFirst batch.now (length self.now)
+        ensures absorbed { OnOk result (IsGoneThrough
+            (absorb_visit (opened_id self.now) (length self.now) batch.now)
             attached.old.passes attached.new.passes) }
-        ensures stopped { IfErr result (λ at. AbsorbFails batch.now at.shard at.fault
-            attached.old.passes attached.new.passes) }
+        ensures stopped { IfErr result (λ at. VisitFails
+            (absorb_visit (opened_id self.now) (length self.now) batch.now)
+            at.shard at.fault attached.old.passes attached.new.passes) }
         ensures pins { attached.new.pins ≡ attached.old.pins }
     {
-        absorb_all(rt, alloc, &self.turns, &mut attached.passes, batch)?;
+        let Ok(visit) = Visit::absorb(alloc, self.id(), self.count(), batch) else {
+            return Err(Stopped::before_all());
+        };
+        self.go_through(rt, attached, visit)?;
         Ok(())
     }
 

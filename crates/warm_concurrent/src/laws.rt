@@ -13,7 +13,7 @@ ghost use Rattle.warm_concurrent.specs.contracts.shared.Attached.{the_row as att
 ghost use Rattle.warm_concurrent.specs.contracts.shared.SharedShards.{the_row as shared_row};
 
 use warm_devices::PageDevice;
-pub use warm_shard_machine::laws::{calls_are_a_nodes, told_devices_are_one};
+pub use warm_shard_machine::laws::{calls_are_a_nodes, errands_are_calls, told_devices_are_one};
 
 /// The headline. Once the shards are closed, the nodes together hold the two latest stamps of every
 /// page among all references that any call of any thread gave any shard, and those with which the

@@ -1,7 +1,6 @@
 //! One replica in shards that threads share.
 #![tactic(auto)]
 
-mod answering;
 mod attaching;
 mod copying;
 mod engine_calls;
@@ -10,21 +9,20 @@ mod filling;
 mod flushing;
 mod gossip;
 mod history_calls;
-mod joining;
 pub mod laws;
 mod looking;
 mod pool_calls;
 mod retiring;
 mod shared;
 mod sharing;
+mod visiting;
 mod writing;
 
 pub use attaching::{NotClosed, NotDetached};
 pub use fault::SharedFault;
-pub use gossip::NotReceived;
-pub use history_calls::Stopped;
 pub use retiring::NotRetired;
 pub use shared::{Attached, SharedShards};
 pub use sharing::Sharing;
-pub use warm_shard_machine::{BoxedHistory, Shard, ShardCall, ShardReply, StateOfShard};
+pub use visiting::Stopped;
+pub use warm_shard_machine::{Shard, ShardCall, ShardReply, StateOfShard};
 pub use writing::NotWritten;

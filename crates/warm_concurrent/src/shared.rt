@@ -1,7 +1,7 @@
 //! Shards that threads share, and what each thread has of them.
 ghost use Rattle.std.specs.Prelude.{◌≡◌, ◌<◌, length, IfErr, IfOk, OnErr};
 ghost use Rattle.warm_visits.specs.ShardNumbers.{IsShardCount, shard_of};
-ghost use Rattle.warm_concurrent.specs.Attached.{AreOf, AreTurns, OpenedAs};
+ghost use Rattle.warm_concurrent.specs.Attached.{AreOf, AreTurns, OpenedAs, opened_id};
 ghost use Rattle.warm_concurrent.specs.Clauses.{AnsweredByShard, Spent};
 ghost use Rattle.warm_concurrent.specs.declared.fault.SharedFault.TheVariants.{TurnsSpent};
 ghost use Rattle.warm_shard_machine.specs.ShardSteps.{MayAnswer};
@@ -13,9 +13,9 @@ use std::marker::Model;
 use std::sync::Wait;
 use warm_devices::PageDevice;
 use warm_shard_machine::{Shard, ShardCall, ShardReply};
+use warm_visits::shard_of;
 use warm_stamps::{PageId, ReplicaId};
 use warm_turn::{Pass, Turn, Visit};
-use warm_visits::shard_of;
 
 /// The shards of one replica, each behind a turn of its own. Threads share them by `&`; each has an
 /// [`Attached`] of its own.
@@ -69,7 +69,8 @@ impl<D: PageDevice + Send> Attached<D> {
 impl<D: PageDevice + Send> SharedShards<D> {
     /// The replica's number: that of each node with which the shards opened.
     pub fn id(&self) -> ReplicaId
-        ensures { OpenedAs result self.now }
+        ensures opened { OpenedAs result self.now }
+        ensures value { result ≡ opened_id self.now }
     {
         self.id
     }

@@ -14,15 +14,15 @@ ghost use Rattle.warm_shard_machine.specs.declared.calls.ShardCall.TheVariants.{
 ghost use Rattle.warm_shard_machine.specs.declared.calls.ShardReply.TheVariants.{Dirty, WasDirty};
 
 use crate::fault::SharedFault;
-use crate::history_calls::Stopped;
 use crate::pool_calls::do_in;
 use crate::shared::{Attached, SharedShards, call_shard};
+use crate::visiting::Stopped;
 use std::sync::Wait;
 use warm_devices::PageDevice;
 use warm_shard_machine::{Shard, ShardCall, ShardReply};
+use warm_visits::shard_of;
 use warm_stamps::PageId;
 use warm_turn::{Pass, Turn};
-use warm_visits::shard_of;
 
 /// Where writing back stopped, and why.
 #[derive(Clone, Copy, PartialEq, Eq, Debug)]

@@ -4,7 +4,7 @@ use Rattle.warm_gossip.specs.declared.call.Call.TheVariants as node_call
 use Rattle.warm_gossip.specs.declared.fault.NodeFault.{NodeFault}
 use Rattle.warm_gossip.specs.State.{NodeState}
 use Rattle.warm_shard_machine.specs.declared.calls.ShardCall.{ShardCall}
-use Rattle.warm_shard_machine.specs.declared.calls.ShardCall.TheVariants.{Absorb, FlushDevice, ForgetPages, TakeIn, Write, WriteBack, WritePages}
+use Rattle.warm_shard_machine.specs.declared.calls.ShardCall.TheVariants.{FlushDevice, ForgetPages, Write, WriteBack, WritePages}
 use Rattle.warm_shard_machine.specs.declared.calls.ShardReply.{ShardReply}
 use Rattle.warm_shard_machine.specs.declared.calls.ShardReply.TheVariants.{Done, Refused}
 use Rattle.warm_shard_machine.specs.ShardSteps.{IsDoneCall, IsOwn, MayAnswer, NodeGoes, asked_of, node_reply_of}
@@ -13,8 +13,6 @@ use Rattle.warm_shard_machine.proofs.ShardStepLemmas.{goes_as}
 module _ (count i : ℕ) where
   -- such a call brings pages of the shard alone
   done_own : (c : ShardCall) → IsDoneCall count i c → IsOwn count i c
-  done_own (Absorb batch) done = done
-  done_own (TakeIn horizon entries) done = done
   done_own (Write slot at bytes) done = tt
   done_own WritePages done = tt
   done_own WriteBack done = tt
@@ -28,9 +26,7 @@ module _ (count i : ℕ) where
       → ((why : NodeFault) → r ≡ Refused why → ⊥) → ⊥
   done_goes x y c Done done goes not_done not_refused = not_done refl
   done_goes x y c (Refused why) done goes not_done not_refused = not_refused why refl
-  done_goes x y (Absorb batch) r done goes not_done not_refused = goes_as x y (node_call.Absorb batch) (node_reply_of r) goes
   done_goes x y (Write slot at bytes) r done goes not_done not_refused = goes_as x y (node_call.Write slot at bytes) (node_reply_of r) goes
-  done_goes x y (TakeIn horizon entries) r done goes not_done not_refused = goes
   done_goes x y WritePages r done goes not_done not_refused = goes
   done_goes x y WriteBack r done goes not_done not_refused = goes
   done_goes x y (FlushDevice dev) r done goes not_done not_refused = goes

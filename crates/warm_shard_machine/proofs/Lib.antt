@@ -4,6 +4,7 @@ pub mod LendingLemmas
 pub mod ReadIntoLemmas
 pub mod FilledPinLemmas
 pub mod ToldDeviceLemmas
+pub mod EnteringLemmas
 pub mod NodeStepLemmas
 pub mod OwnPageLemmas
 pub mod SendLemmas

@@ -1,26 +1,23 @@
 -- What the calls of a shard did to its node, and what they gave it.
 use Rattle.std.proofs.Common.{◌≡◌, ℕ, List, [], ◌∷◌, ◌++◌, Option, Some, None, refl, sym, ap, subst, ◌∙◌}
-use Rattle.warm_history.specs.ReferenceSets.{ReferenceSet, ◌∪◌}
-use Rattle.warm_history.specs.Entry.{Entry}
-use Rattle.warm_history.specs.Histories.{history, history_of_entries_at, references_of}
+use Rattle.warm_history.specs.ReferenceSets.{ReferenceSet}
+use Rattle.warm_history.specs.Histories.{history}
 use Rattle.warm_machine.specs.declared.operation.Operation.{Operation}
 use Rattle.warm_machine.specs.Runs.{Runs, operation}
 use Rattle.warm_pool.specs.declared.fault.PoolFault.TheVariants.{SizeDiffers}
-use Rattle.warm_gossip.specs.Clauses.{JoinsEntries, NodeWriteBackFails, SameView}
+use Rattle.warm_gossip.specs.Clauses.{NodeWriteBackFails, SameView}
 use Rattle.warm_gossip.specs.State.{NodeState, NodeView, node_view}
 use Rattle.warm_gossip.specs.declared.call.Call.{Call}
-use Rattle.warm_gossip.specs.declared.call.Call.TheVariants as node_call
 use Rattle.warm_gossip.specs.declared.call.Reply.{Reply}
-use Rattle.warm_gossip.specs.declared.call.Reply.TheVariants as node_reply
 use Rattle.warm_gossip.specs.declared.fault.NodeFault.{NodeFault}
 use Rattle.warm_gossip.specs.declared.fault.NodeFault.TheVariants.{Memory, Pool}
 use Rattle.warm_gossip.proofs.GivenLemmas.{told_is_history}
-use Rattle.warm_frames.specs.declared.message.Message.TheVariants.{Entries}
 use Rattle.warm_shard_machine.specs.declared.calls.ShardCall.{ShardCall}
 use Rattle.warm_shard_machine.specs.declared.calls.ShardReply.{ShardReply}
-use Rattle.warm_shard_machine.specs.declared.calls.ShardReply.TheVariants.{Answers, Changed, Copied, Dirty, Done, Foreign, Looked, Page, Pinned, Portion, Refused, Replaced, WasDirty}
+use Rattle.warm_shard_machine.specs.declared.calls.ShardReply.TheVariants.{Changed, Dirty, Done, Entered, Foreign, Looked, Page, Pinned, Portion, Refused, Replaced, WasDirty}
 use Rattle.warm_shard_machine.specs.Laws.{CallsAreANodes, ShardIsOfGiven, asked_steps, given_by_reply, given_by_step, given_by_steps, node_steps}
-use Rattle.warm_shard_machine.specs.ShardSteps.{Asked, doing, looking, changing, CallGoes, NodeGoes, NodeStep, ShardState, ShardStep, Work, calling, writing_pages, writing_some, writing_page, writing_back, flushing, zeroing, filling, naming_next, forgetting, taking_in, answering, sending_since, copying, retiring, asked_of, node_reply_of}
+use Rattle.warm_shard_machine.specs.ShardSteps.{Asked, doing, looking, changing, CallGoes, NodeGoes, NodeStep, ShardState, ShardStep, Work, calling, writing_pages, writing_some, writing_page, writing_back, flushing, zeroing, filling, naming_next, forgetting, sending_since, retiring, entering, asked_of, node_reply_of}
+use Rattle.warm_shard_machine.proofs.EnteringLemmas.{entered_given}
 
 -- ---- the steps of a shard are a node's
 
@@ -76,14 +73,6 @@ call_given S o y c None stands step = absurd step
 call_given S o y c (Some r) stands step =
     told_is_history S (node_view o) (node_view y) (operation 0 c r ∷ []) stands (node_view y, step.0, refl)
 
--- after it took entries in, it has that of what they bring too, as if it had received them
-taken_given : (S : ReferenceSet) (o y : NodeState) (horizon : ℕ) (es : List Entry)
-    → o.history ≡ history S → JoinsEntries o horizon es y
-    → y.history ≡ history (S ∪ references_of (history_of_entries_at horizon es))
-taken_given S o y horizon es stands joins =
-    let received = operation 0 (node_call.Receive (Entries 0 horizon es)) (node_reply.Answers []) in
-    told_is_history S (node_view o) (node_view y) (received ∷ []) stands (node_view y, (refl, joins), refl)
-
 -- the history that a caller sees is unchanged
 same_history : (o y : NodeState) → SameView o y → y.history ≡ o.history
 same_history o y same = ap (λ (n : NodeView). n.history) same
@@ -92,16 +81,16 @@ failed_history : (o y : NodeState) (why : NodeFault) → NodeWriteBackFails o wh
     → y.history ≡ o.history
 failed_history o y why fails = ap (λ (n : NodeView). n.history) fails.1.0
 
--- so it is beside the calls, and the entries that are taken in
+-- so it is beside the calls, and the errands of visits
 abbrev IsBeside : Work → Type 0
 IsBeside (calling c) = ⊥
-IsBeside (taking_in horizon es) = ⊥
+IsBeside (entering count number v) = ⊥
 IsBeside w = Unit {0}
 
 beside : (o y : NodeState) (w : Work) (r : ShardReply) → IsBeside w → NodeStep o w r y
     → y.history ≡ o.history
 beside o y (calling c) r not step = absurd not
-beside o y (taking_in horizon es) r not step = absurd not
+beside o y (entering count number v) r not step = absurd not
 beside o y writing_pages Done is step = same_history o y step.0
 beside o y writing_pages (Refused why) is step = failed_history o y why step.0
 beside o y writing_pages r is step = absurd step
@@ -131,15 +120,9 @@ beside o y naming_next r is step = absurd step
 beside o y (forgetting dev from) Done is step = step.0.history
 beside o y (forgetting dev from) (Refused why) is step = step.0.history
 beside o y (forgetting dev from) r is step = absurd step
-beside o y (answering request) (Answers messages) is step = ap (λ (n : NodeState). n.history) step.1
-beside o y (answering request) (Refused why) is step = ap (λ (n : NodeState). n.history) step.1
-beside o y (answering request) r is step = absurd step
 beside o y (sending_since bucket since after) (Portion message more) is step = ap (λ (n : NodeState). n.history) step.2
 beside o y (sending_since bucket since after) (Refused why) is step = ap (λ (n : NodeState). n.history) step.1
 beside o y (sending_since bucket since after) r is step = absurd step
-beside o y copying (Copied h) is step = ap (λ (n : NodeState). n.history) step.1
-beside o y copying (Refused why) is step = ap (λ (n : NodeState). n.history) step.1
-beside o y copying r is step = absurd step
 beside o y (retiring dev told) (Replaced given) is step = step.4.history
 beside o y (retiring dev told) (Refused (Pool _)) is step = step.2.history
 beside o y (retiring dev told) (Refused Memory) is step = ap (λ (n : NodeState). n.history) step
@@ -149,9 +132,9 @@ beside o y (retiring dev told) r is step = absurd step
 one_given : (S : ReferenceSet) (o y : NodeState) (w : Work) (r : ShardReply)
     → o.history ≡ history S → NodeStep o w r y → y.history ≡ history (given_by_step S w r)
 one_given S o y (calling c) r stands step = call_given S o y c (node_reply_of r) stands step
-one_given S o y (taking_in horizon es) Done stands step = taken_given S o y horizon es stands step.0
-one_given S o y (taking_in horizon es) (Refused why) stands step = same_history o y step.1 ∙ stands
-one_given S o y (taking_in horizon es) r stands step = absurd step
+one_given S o y (entering count number v) (Entered w) stands step = entered_given S o y stands v w step.1
+one_given S o y (entering count number v) (Refused why) stands step = ap (λ (n : NodeState). n.history) step.1 ∙ stands
+one_given S o y (entering count number v) r stands step = absurd step
 one_given S o y w r stands step = beside o y w r tt step ∙ stands
 
 -- and so after many

@@ -1,5 +1,5 @@
 -- A shard holds its own pages alone, after any call.
-use Rattle.std.proofs.Common.{◌≡◌, ℕ, List, [], ◌∷◌, map, Option, Some, None, Ok, Err, refl, sym, ap, subst}
+use Rattle.std.proofs.Common.{◌≡◌, ℕ, List, [], ◌∷◌, map, Option, Some, None, Ok, Err, sym, ap, subst}
 use Rattle.std.specs.List.{AllByRecursion}
 use Rattle.warm_stamps.specs.declared.PageId.{PageId}
 use Rattle.warm_history.specs.Histories.{HistoryView, entries_of}
@@ -12,7 +12,6 @@ use Rattle.warm_machine.specs.declared.operation.Operation.{Operation}
 use Rattle.warm_machine.specs.Runs.{Runs}
 use Rattle.warm_gossip.specs.declared.call.Call.{Call}
 use Rattle.warm_gossip.specs.declared.call.Reply.{Reply}
-use Rattle.warm_frames.specs.declared.message.Message.TheVariants.{Entries}
 use Rattle.warm_gossip.specs.declared.call.Call.TheVariants as node_call
 use Rattle.warm_gossip.specs.declared.call.Reply.TheVariants as node_reply
 use Rattle.warm_gossip.specs.declared.fault.NodeFault.{NodeFault}
@@ -27,10 +26,12 @@ use Rattle.warm_shards.proofs.Calls.{frames_own}
 use Rattle.warm_shards.proofs.EngineCalls.{SameFrames, flushed_frames, forgotten_own, page_frames, retired_own, unretired_frames, zeroed_own}
 use Rattle.warm_shards.proofs.HoldsPagesLemmas.{failures_stay, steps_stay}
 use Rattle.warm_shard_machine.specs.declared.calls.ShardCall.{ShardCall}
-use Rattle.warm_shard_machine.specs.declared.calls.ShardCall.TheVariants.{Absorb, Change, Look, Pin, PinFilled, PinZeroed, TakeIn}
+use Rattle.warm_shard_machine.specs.declared.calls.ShardCall.TheVariants.{Change, Enter, Look, Pin, PinFilled, PinZeroed}
 use Rattle.warm_shard_machine.specs.declared.calls.ShardReply.{ShardReply}
-use Rattle.warm_shard_machine.specs.declared.calls.ShardReply.TheVariants.{Answers, Changed, Copied, Dirty, Done, Foreign, Looked, Page, Pinned, Portion, Refused, Replaced, WasDirty}
-use Rattle.warm_shard_machine.specs.ShardSteps.{Asked, doing, looking, changing, CallGoes, CallStep, IsOwn, NodeGoes, NodeStep, ShardState, ShardStep, Work, calling, writing_pages, writing_some, writing_page, writing_back, flushing, zeroing, filling, naming_next, forgetting, taking_in, answering, sending_since, copying, retiring, asked_of, node_reply_of}
+use Rattle.warm_shard_machine.specs.declared.calls.ShardReply.TheVariants.{Changed, Dirty, Done, Entered, Foreign, Looked, Page, Pinned, Portion, Refused, Replaced, WasDirty}
+use Rattle.warm_shard_machine.specs.ShardSteps.{Asked, doing, looking, changing, CallGoes, CallStep, IsOwn, NodeGoes, NodeStep, ShardState, ShardStep, Work, calling, writing_pages, writing_some, writing_page, writing_back, flushing, zeroing, filling, naming_next, forgetting, sending_since, retiring, entering, asked_of, node_reply_of}
+use Rattle.warm_shard_machine.specs.Entering.{IsNextAt}
+use Rattle.warm_shard_machine.proofs.EnteringLemmas.{entered_own}
 use Rattle.warm_shard_machine.proofs.ShardStepLemmas.{runs_keep, unforgotten}
 
 -- ---- a node after one step
@@ -74,7 +75,7 @@ module _ (count i : ℕ) where
   BringsWork (calling c) = BringsOwn count i c
   BringsWork (zeroing p) = IsHere p
   BringsWork (filling p bytes) = IsHere p
-  BringsWork (taking_in horizon es) = BringsOwn count i (node_call.Receive (Entries 0 horizon es))
+  BringsWork (entering all next v) = (all ≡ count) × (next ≡ i)
   BringsWork w = Unit {0}
 
   step_own : (n m : NodeState) (w : Work) (r : ShardReply) → BringsWork w → HoldsShard count i n
@@ -124,26 +125,20 @@ module _ (count i : ℕ) where
       let same = unforgotten n.pool m.pool dev from why step.1 in
       pool_own n m own step.0 (subst (λ (s : PoolState). HasPagesOf count i (view_of s)) (sym same) own.resident)
   step_own n m (forgetting dev from) r brings own step = absurd step
-  -- as a message that brings them is received
-  step_own n m (taking_in horizon es) Done brings own step =
-      steps_stay count i (node_view n) (node_view m) (node_call.Receive (Entries 0 horizon es)) (node_reply.Answers []) brings own (refl, step.0)
-  step_own n m (taking_in horizon es) (Refused why) brings own step = same_stays n m own step.1
-  step_own n m (taking_in horizon es) r brings own step = absurd step
-  step_own n m (answering request) (Answers messages) brings own step = subst (HoldsShard count i) (sym step.1) own
-  step_own n m (answering request) (Refused why) brings own step = subst (HoldsShard count i) (sym step.1) own
-  step_own n m (answering request) r brings own step = absurd step
   step_own n m (sending_since bucket since after) (Portion message more) brings own step = subst (HoldsShard count i) (sym step.2) own
   step_own n m (sending_since bucket since after) (Refused why) brings own step = subst (HoldsShard count i) (sym step.1) own
   step_own n m (sending_since bucket since after) r brings own step = absurd step
-  step_own n m copying (Copied h) brings own step = subst (HoldsShard count i) (sym step.1) own
-  step_own n m copying (Refused why) brings own step = subst (HoldsShard count i) (sym step.1) own
-  step_own n m copying r brings own step = absurd step
   step_own n m (retiring dev told) (Replaced given) brings own step =
       pool_own n m own step.4 (retired_own count i (view_of n.pool) (view_of m.pool) dev step.0 step.5.retires.retired own.resident)
   step_own n m (retiring dev told) (Refused (Pool fault)) brings own step =
       same_frames n m own step.2 (unretired_frames (view_of n.pool) (view_of m.pool) dev step.0 fault step.3.cause)
   step_own n m (retiring dev told) (Refused Memory) brings own step = subst (HoldsShard count i) (sym step) own
   step_own n m (retiring dev told) r brings own step = absurd step
+  step_own n m (entering all next v) (Entered w) brings own step =
+      let at : IsNextAt count i v = subst (λ j. IsNextAt count j v) brings.1 (subst (λ k. IsNextAt k next v) brings.0 step.0) in
+      entered_own count i n m own v w at step.1
+  step_own n m (entering all next v) (Refused why) brings own step = subst (HoldsShard count i) (sym step.1) own
+  step_own n m (entering all next v) r brings own step = absurd step
 
   -- so does all that a shard asks of its node for a call of own pages
   abbrev BringsAsked : Asked → Type 0
@@ -152,13 +147,12 @@ module _ (count i : ℕ) where
   BringsAsked (changing p) = IsHere p
 
   own_asked : (c : ShardCall) → IsOwn count i c → BringsAsked (asked_of c)
-  own_asked (Absorb batch) own = own
-  own_asked (TakeIn horizon es) own = own
   own_asked (Pin p) own = own
   own_asked (PinZeroed p) own = own
   own_asked (PinFilled p bytes) own = own
   own_asked (Look p) own = own
   own_asked (Change p) own = own
+  own_asked (Enter all next v) own = own
   own_asked c own = tt
 
   goes_own : (n m : NodeState) (a : Asked) (r : ShardReply) → BringsAsked a → HoldsShard count i n

@@ -19,12 +19,13 @@ use Rattle.warm_gossip.specs.Clauses.{NodeWriteBackFails, OfPool, SameView}
 use Rattle.warm_gossip.specs.State.{NodeState, NodeView, node_view}
 use Rattle.warm_machine.specs.Runs.{Runs}
 use Rattle.warm_shard_machine.specs.declared.calls.ShardCall.{ShardCall}
-use Rattle.warm_shard_machine.specs.declared.calls.ShardCall.TheVariants.{Absorb, Answer, Change, CopyHistory, FlushDevice, ForgetPages, Look, Offer, Pin, PinFilled, PinZeroed, Raise, Read, Retire, Send, SendSince, TakeIn, Unpin, Victim, WarmList, WarmNext, WarmStep, Write, WriteBack, WritePage, WritePages, WriteSome}
+use Rattle.warm_shard_machine.specs.declared.calls.ShardCall.TheVariants.{Change, Enter, FlushDevice, ForgetPages, Look, Pin, PinFilled, PinZeroed, Raise, Read, Retire, Send, SendSince, Unpin, Victim, WarmList, WarmNext, WarmStep, Write, WriteBack, WritePage, WritePages, WriteSome}
 use Rattle.warm_shard_machine.specs.declared.calls.ShardReply.{ShardReply}
-use Rattle.warm_shard_machine.specs.declared.calls.ShardReply.TheVariants.{Answers, Changed, Copied, Dirty, Done, Foreign, Loaded, Looked, Page, Pinned, Portion, Refused, Replaced, WasDirty}
+use Rattle.warm_shard_machine.specs.declared.calls.ShardReply.TheVariants.{Changed, Dirty, Done, Entered, Foreign, Loaded, Looked, Page, Pinned, Portion, Refused, Replaced, WasDirty}
 use Rattle.warm_shard_machine.specs.Laws.{Log}
 use Rattle.warm_shard_machine.specs.Pins.{LeadsTo, PinsAreGiven, pin_by, pool_pins, unpin_by}
 use Rattle.warm_shard_machine.specs.ShardSteps.{CallGoes, NodeGoes, ShardState, ShardStep, asked_of, node_reply_of}
+use Rattle.warm_shard_machine.proofs.EnteringLemmas.{entered_pool}
 use Rattle.warm_shard_machine.proofs.ShardStepLemmas.{goes_as, unforgotten}
 use Rattle.warm_shard_machine.proofs.PoolPinLemmas.{IsCalm, IsFree, Moves, calm_same, forgotten_moves, pin_moves, pool_free, refused_same, retire_refused, retired_moves, same_moves, then_same, unpin_moves, warm_moves, zeroed_moves}
 
@@ -78,13 +79,11 @@ unpinned_page n m p why free step =
 -- what the node does for a call
 goes_moves : (n m : NodeState) (c : ShardCall) (r : ShardReply) → IsFree (view_of n.pool)
     → NodeGoes n (asked_of c) r m → NodeMoves (pin_by c r) (unpin_by c r) n m
-goes_moves n m (Absorb batch) r free step = calm n m (node_call.Absorb batch) (node_reply_of r) tt free step
 goes_moves n m (Raise time) r free step = calm n m (node_call.Horizon time) (node_reply_of r) tt free step
 goes_moves n m (Read slot at len) r free step = calm n m (node_call.Read slot at len) (node_reply_of r) tt free step
 goes_moves n m (Write slot at bytes) r free step = calm n m (node_call.Write slot at bytes) (node_reply_of r) tt free step
 goes_moves n m Victim r free step = calm n m node_call.Victim (node_reply_of r) tt free step
 goes_moves n m (WarmList limit) r free step = calm n m (node_call.WarmList limit) (node_reply_of r) tt free step
-goes_moves n m Offer r free step = calm n m node_call.Offer (node_reply_of r) tt free step
 goes_moves n m (Send bucket after) r free step = calm n m (node_call.Send bucket after) (node_reply_of r) tt free step
 goes_moves n m (Pin p) (Pinned slot) free step = pin_moves (node_view n) (node_view m) p slot step.0 free
 goes_moves n m (Pin p) (Refused why) free step = unpinned_page n m p why free step
@@ -97,9 +96,6 @@ goes_moves n m WarmStep (Loaded page) free step = warm_moves (node_view n) (node
 goes_moves n m WarmStep (Refused why) free step =
     stays n m free (refused_same (node_view n) (node_view m) node_call.WarmStep why step.0)
 goes_moves n m WarmStep r free step = absurd (goes_as n m node_call.WarmStep (node_reply_of r) step)
-goes_moves n m (TakeIn horizon es) Done free step = stays n m free (ap (λ (v : NodeView). v.pool.frames) step.0)
-goes_moves n m (TakeIn horizon es) (Refused why) free step = stays n m free (unseen n m step.1)
-goes_moves n m (TakeIn horizon es) r free step = absurd step
 goes_moves n m (PinZeroed p) (Pinned slot) free step =
     zeroed_moves n.history (view_of n.pool) (view_of m.pool) p slot step.1 free
 goes_moves n m (PinZeroed p) (Refused why) free step =
@@ -117,12 +113,6 @@ goes_moves n m WarmNext r free step = absurd step
 goes_moves n m (SendSince bucket since after) (Portion message more) free step = stays n m free (unmoved n m step.2)
 goes_moves n m (SendSince bucket since after) (Refused why) free step = stays n m free (unmoved n m step.1)
 goes_moves n m (SendSince bucket since after) r free step = absurd step
-goes_moves n m (Answer request) (Answers messages) free step = stays n m free (unmoved n m step.1)
-goes_moves n m (Answer request) (Refused why) free step = stays n m free (unmoved n m step.1)
-goes_moves n m (Answer request) r free step = absurd step
-goes_moves n m CopyHistory (Copied history) free step = stays n m free (unmoved n m step.1)
-goes_moves n m CopyHistory (Refused why) free step = stays n m free (unmoved n m step.1)
-goes_moves n m CopyHistory r free step = absurd step
 goes_moves n m WritePages Done free step = stays n m free (unseen n m step.0)
 goes_moves n m WritePages (Refused why) free step = stays n m free (fails n m why step.0)
 goes_moves n m WritePages r free step = absurd step
@@ -151,6 +141,10 @@ goes_moves n m (Retire dev told) (Refused (Pool fault)) free step =
     stays n m free (retire_refused (view_of n.pool) (view_of m.pool) dev step.0 fault step.3.cause)
 goes_moves n m (Retire dev told) (Refused Memory) free step = stays n m free (unmoved n m step)
 goes_moves n m (Retire dev told) r free step = absurd step
+goes_moves n m (Enter count number v) (Entered w) free step =
+    stays n m free (ap (λ (x : PoolView). x.frames) (entered_pool n m v w step.1))
+goes_moves n m (Enter count number v) (Refused why) free step = stays n m free (unmoved n m step.1)
+goes_moves n m (Enter count number v) r free step = absurd step
 -- a look pins and unpins
 goes_moves n m (Look p) (Looked slot bytes) free step =
     let pinned = pin_moves (node_view n) (node_view step.mid) p slot step.pins.0 free in

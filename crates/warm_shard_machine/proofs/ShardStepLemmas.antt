@@ -14,7 +14,7 @@ use Rattle.warm_gossip.specs.State.{NodeState}
 use Rattle.warm_shard_machine.specs.declared.calls.ShardCall.{ShardCall}
 use Rattle.warm_shard_machine.specs.declared.calls.ShardReply.{ShardReply}
 use Rattle.warm_shard_machine.specs.declared.calls.ShardReply.TheVariants.{Foreign}
-use Rattle.warm_shard_machine.specs.ShardSteps.{CallGoes, IsOwn, NodeGoes, ShardStep, ShardState, asked_of}
+use Rattle.warm_shard_machine.specs.ShardSteps.{Asked, CallGoes, IsOwn, NodeGoes, ShardStep, ShardState, asked_of, calling, doing}
 
 -- the shard is the same one
 abbrev pub SameShard : ShardState → ShardState → Type 0
@@ -50,6 +50,19 @@ pub own_step : (x y : ShardState) (c : ShardCall) (r : ShardReply) → IsOwn x.c
     → ShardStep x c r y → NodeGoes x.node (asked_of c) r y.node
 own_step x y c Foreign own step = absurd (step.0 own)
 own_step x y c r own step = step.2
+
+-- a node never answers that a page is of another shard
+never_foreign : (x y : NodeState) (a : Asked) → NodeGoes x a Foreign y → ⊥
+never_foreign x y (doing (calling c)) goes = goes
+never_foreign x y (doing w) goes = goes
+never_foreign x y a goes = goes
+
+-- so what it answers to a call of own pages is a step of the shard
+pub made_step : (x : ShardState) (y : NodeState) (c : ShardCall) (r : ShardReply)
+    → IsOwn x.count x.number c → NodeGoes x.node (asked_of c) r y
+    → ShardStep x c r (record x { node = y })
+made_step x y c Foreign own goes = absurd (never_foreign x.node y (asked_of c) goes)
+made_step x y c r own goes = (own, refl, goes)
 
 -- what a caller of the node sees of a call, by its reply, if this is one of a node
 abbrev pub GoesAs : NodeState → Call → Option Reply → NodeState → Type 0

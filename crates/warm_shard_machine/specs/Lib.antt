@@ -1,4 +1,5 @@
 pub mod ToldDevices
+pub mod Entering
 pub mod ShardSteps
 pub mod Visits
 pub mod Laws

@@ -1,18 +1,13 @@
 -- A shard as a machine: the calls of a node that it answers, and its steps.
-use Rattle.std.specs.Prelude.{◌≡◌, ◌≢◌, ◌↔◌, ℕ, ◌%◌, ◌<◌, IsTrue, List, length, Option, Some, None}
+use Rattle.std.specs.Prelude.{◌≡◌, ◌≢◌, ◌↔◌, ℕ, ◌%◌, IsTrue, List, length, Option, Some, None}
 use Rattle.std.specs.Prelude.{Result, Ok, Err}
-use Rattle.std.specs.Int.{bit_at}
-use Rattle.std.specs.List.{All}
 use Rattle.boxcar.specs.declared.tag.Tag.{Tag}
-use Rattle.warm_stamps.specs.declared.TheConstants.{BUCKETS}
 use Rattle.warm_stamps.specs.declared.PageId.{PageId}
-use Rattle.warm_history.specs.Entry.{Entry}
 use Rattle.warm_pool.specs.declared.slot.Slot.{Slot}
 use Rattle.warm_pool.specs.declared.fault.PoolFault.TheVariants.{SizeDiffers}
 use Rattle.warm_pool.specs.Filling.{TakesFilled}
 use Rattle.warm_pool.specs.Forgetting.{ForgetRefused, Forgets}
 use Rattle.warm_devices.specs.Device.{DeviceState}
-use Rattle.warm_pool.specs.Unchanged.{KeepsBytes}
 use Rattle.warm_pool.specs.Unchanged.{KeepsFrames}
 use Rattle.warm_pool.specs.Outcomes.{FlushDeviceFails, ReplacesDevice, RetireFails, SettlesDevice}
 use Rattle.warm_pool.specs.Outcomes.{UnreadPinFails, WritePageFails, WritesPageBack}
@@ -28,35 +23,35 @@ use Rattle.warm_gossip.specs.declared.call.Reply.{Reply}
 use Rattle.warm_gossip.specs.declared.call.Reply.TheVariants as node_reply
 use Rattle.warm_gossip.specs.declared.fault.NodeFault.{NodeFault}
 use Rattle.warm_gossip.specs.declared.fault.NodeFault.TheVariants.{Memory, Pool}
-use Rattle.warm_gossip.specs.Clauses.{DevicesAfter, Goes, JoinsEntries, NodeWriteBackFails, OfPool}
+use Rattle.warm_gossip.specs.Clauses.{DevicesAfter, Goes, NodeWriteBackFails, OfPool}
 use Rattle.warm_gossip.specs.Clauses.{SameView}
-use Rattle.warm_peer.specs.Answers.{requested_messages}
 use Rattle.warm_peer.specs.Since.{HasMoreSince, sent_since}
 use Rattle.warm_gossip.specs.Engine.{KeepsKnown}
 use Rattle.warm_gossip.specs.State.{NodeState, node_view}
 use Rattle.warm_gossip.specs.Step.{IsNextWarm}
 use Rattle.warm_shards.specs.Shards.{no_shard}
 use Rattle.warm_visits.specs.ShardNumbers.{shard_of}
+use Rattle.warm_visits.specs.Visits.{HasEntered, VisitState}
 use Rattle.warm_shard_machine.specs.declared.calls.ShardCall.{ShardCall}
-use Rattle.warm_shard_machine.specs.declared.calls.ShardCall.TheVariants.{Absorb, Raise, Pin, Unpin}
+use Rattle.warm_shard_machine.specs.declared.calls.ShardCall.TheVariants.{Raise, Pin, Unpin}
 use Rattle.warm_shard_machine.specs.declared.calls.ShardCall.TheVariants.{Read, Write, Victim}
-use Rattle.warm_shard_machine.specs.declared.calls.ShardCall.TheVariants.{WarmStep, WarmList, Answer}
-use Rattle.warm_shard_machine.specs.declared.calls.ShardCall.TheVariants.{Offer, Send, SendSince}
+use Rattle.warm_shard_machine.specs.declared.calls.ShardCall.TheVariants.{WarmStep, WarmList}
+use Rattle.warm_shard_machine.specs.declared.calls.ShardCall.TheVariants.{Send, SendSince}
 use Rattle.warm_shard_machine.specs.declared.calls.ShardCall.TheVariants.{WritePages, WriteSome}
 use Rattle.warm_shard_machine.specs.declared.calls.ShardCall.TheVariants.{WriteBack, Look, Change}
 use Rattle.warm_shard_machine.specs.declared.calls.ShardCall.TheVariants.{PinZeroed, ForgetPages}
-use Rattle.warm_shard_machine.specs.declared.calls.ShardCall.TheVariants.{TakeIn, CopyHistory}
 use Rattle.warm_shard_machine.specs.declared.calls.ShardCall.TheVariants.{Retire, FlushDevice}
 use Rattle.warm_shard_machine.specs.declared.calls.ShardCall.TheVariants.{PinFilled, WarmNext}
-use Rattle.warm_shard_machine.specs.declared.calls.ShardCall.TheVariants.{WritePage}
+use Rattle.warm_shard_machine.specs.declared.calls.ShardCall.TheVariants.{Enter, WritePage}
+use Rattle.warm_shard_machine.specs.Entering.{IsNextAt}
 use Rattle.warm_shard_machine.specs.ToldDevices.{IsTold}
 use Rattle.warm_shard_machine.specs.declared.calls.ShardReply.{ShardReply}
 use Rattle.warm_shard_machine.specs.declared.calls.ShardReply.TheVariants.{Done, Kept, Pinned, Bytes}
 use Rattle.warm_shard_machine.specs.declared.calls.ShardReply.TheVariants.{Page, Loaded, Sent}
-use Rattle.warm_shard_machine.specs.declared.calls.ShardReply.TheVariants.{Answers, Foreign, Pages}
+use Rattle.warm_shard_machine.specs.declared.calls.ShardReply.TheVariants.{Foreign, Pages}
 use Rattle.warm_shard_machine.specs.declared.calls.ShardReply.TheVariants.{Portion, Dirty, Refused}
-use Rattle.warm_shard_machine.specs.declared.calls.ShardReply.TheVariants.{Looked, Changed, Copied}
-use Rattle.warm_shard_machine.specs.declared.calls.ShardReply.TheVariants.{Replaced, WasDirty}
+use Rattle.warm_shard_machine.specs.declared.calls.ShardReply.TheVariants.{Looked, Changed}
+use Rattle.warm_shard_machine.specs.declared.calls.ShardReply.TheVariants.{Entered, Replaced, WasDirty}
 
 -- a shard: how many there are, its number, and its node
 pub record ShardState : Type 0 where
@@ -77,9 +72,8 @@ no_state = shard_over 0 0 no_shard
 -- What a node does in one step: a call; to write back all pages, some, one, or all with a flush; to
 -- write back those of a device, and flush it; a pin of a page that gets zeros, or that gets these
 -- bytes; to name the page that a warm-up step would load; to forget the pages of a device from a
--- number on; to take entries in, at the later horizon; to send the entries of these buckets, or what
--- is new in a bucket since a time, after a page; to copy its history; or to replace a device with
--- another.
+-- number on; to send what is new in a bucket since a time, after a page; to replace a device with
+-- another; or what a visit of so many shards asks of that of this number.
 pub data Work : Type 0 where
   calling : Call → Work
   writing_pages : Work
@@ -91,11 +85,9 @@ pub data Work : Type 0 where
   filling : PageId → List ℕ → Work
   naming_next : Work
   forgetting : ℕ → ℕ → Work
-  taking_in : ℕ → List Entry → Work
-  answering : ℕ → Work
   sending_since : ℕ → ℕ → Option PageId → Work
-  copying : Work
   retiring : ℕ → Tag → Work
+  entering : ℕ → ℕ → VisitState → Work
 
 -- what a shard asks of its node: one step; or several calls in one turn, of a page that is looked
 -- at, or changed
@@ -110,9 +102,7 @@ of_node call = doing (calling call)
 
 -- what this call asks of the node
 abbrev pub asked_of : ShardCall → Asked
-asked_of (Absorb batch) = of_node (node_call.Absorb batch)
 asked_of (Raise time) = of_node (node_call.Horizon time)
-asked_of (TakeIn horizon entries) = doing (taking_in horizon entries)
 asked_of (Pin page) = of_node (node_call.Pin page)
 asked_of (PinZeroed page) = doing (zeroing page)
 asked_of (PinFilled page bytes) = doing (filling page bytes.numbers)
@@ -123,11 +113,8 @@ asked_of Victim = of_node node_call.Victim
 asked_of WarmStep = of_node node_call.WarmStep
 asked_of WarmNext = doing naming_next
 asked_of (WarmList n) = of_node (node_call.WarmList n)
-asked_of Offer = of_node node_call.Offer
 asked_of (Send bucket after) = of_node (node_call.Send bucket after)
 asked_of (SendSince bucket since after) = doing (sending_since bucket since after)
-asked_of (Answer request) = doing (answering request)
-asked_of CopyHistory = doing copying
 asked_of WritePages = doing writing_pages
 asked_of (WriteSome limit) = doing (writing_some limit)
 asked_of (WritePage page) = doing (writing_page page)
@@ -137,6 +124,7 @@ asked_of (ForgetPages dev from) = doing (forgetting dev from)
 asked_of (Retire dev device) = doing (retiring dev device)
 asked_of (Look page) = looking page
 asked_of (Change page) = changing page
+asked_of (Enter count number v) = doing (entering count number v)
 
 -- the reply of a node that this is, if it is one
 abbrev pub node_reply_of : ShardReply → Option Reply
@@ -148,37 +136,30 @@ node_reply_of (Page page) = Some (node_reply.Page page)
 node_reply_of (Loaded page) = Some (node_reply.Loaded page)
 node_reply_of (Pages pages) = Some (node_reply.Pages pages)
 node_reply_of (Sent message) = Some (node_reply.Sent message)
-node_reply_of (Answers messages) = Some (node_reply.Answers messages)
 node_reply_of (Refused why) = Some (node_reply.Refused why)
 node_reply_of (Dirty left) = None
 node_reply_of (WasDirty was_dirty) = None
 node_reply_of (Portion message more) = None
-node_reply_of (Copied history) = None
 node_reply_of (Replaced was) = None
 node_reply_of (Looked slot bytes) = None
 node_reply_of (Changed slot before after) = None
+node_reply_of (Entered w) = None
 node_reply_of Foreign = None
 
 -- the number of the shard that has the pages of a bucket, of this many shards
 abbrev pub shard_of_bucket : ℕ → ℕ → ℕ
 shard_of_bucket count bucket = bucket % count
 
--- all these buckets are of the shard of this number
-abbrev pub AreOwnBuckets : ℕ → ℕ → ℕ → Type 0
-AreOwnBuckets count number buckets = (bucket : ℕ) → bucket < BUCKETS → bit_at buckets bucket ≡ 1
-    → shard_of_bucket count bucket ≡ number
-
--- every page and every bucket that the call brings is of the shard of this number
+-- every page that the call brings is of the shard of this number, and a visit that it brings goes next
+-- to this shard
 abbrev pub IsOwn : ℕ → ℕ → ShardCall → Type 0
-IsOwn count number (Absorb batch) = All (λ r. shard_of count r.page ≡ number) batch
-IsOwn count number (TakeIn horizon entries) = All (λ e. shard_of count e.page ≡ number) entries
 IsOwn count number (Pin page) = shard_of count page ≡ number
 IsOwn count number (PinZeroed page) = shard_of count page ≡ number
 IsOwn count number (PinFilled page bytes) = shard_of count page ≡ number
 IsOwn count number (WritePage page) = shard_of count page ≡ number
-IsOwn count number (Answer request) = AreOwnBuckets count number request
 IsOwn count number (Look page) = shard_of count page ≡ number
 IsOwn count number (Change page) = shard_of count page ≡ number
+IsOwn count number (Enter all next v) = (all ≡ count) × (next ≡ number)
 IsOwn count number call = Unit {0}
 
 -- Steps of a node
@@ -273,22 +254,6 @@ ForgetPagesStep old dev from (Refused why) new = KeepsKnown old new
     × OfPool (λ fault. ForgetRefused old.pool dev from fault new.pool) why
 ForgetPagesStep old dev from reply new = ⊥
 
--- The entries were taken in, at the later horizon, or no memory was left. No device and no dirty
--- flag has changed.
-abbrev pub TakeInStep : NodeState → ℕ → List Entry → ShardReply → NodeState → Type 0
-TakeInStep old horizon entries Done new = JoinsEntries old horizon entries new
-    × KeepsBytes old.pool new.pool
-TakeInStep old horizon entries (Refused why) new = (why ≡ Memory) × SameView old new
-    × KeepsBytes old.pool new.pool
-TakeInStep old horizon entries reply new = ⊥
-
--- the entries of these buckets, in messages
-abbrev pub AnswerStep : NodeState → ℕ → ShardReply → NodeState → Type 0
-AnswerStep old request (Answers messages) new =
-    (messages ≡ requested_messages old.id old.history request) × (new ≡ old)
-AnswerStep old request (Refused why) new = (why ≡ Memory) × (new ≡ old)
-AnswerStep old request reply new = ⊥
-
 -- the message of what is new in a bucket since a time, and whether more follows
 abbrev pub SendSinceStep : NodeState → ℕ → ℕ → Option PageId → ShardReply → NodeState → Type 0
 SendSinceStep old bucket since after (Portion message more) new =
@@ -296,12 +261,6 @@ SendSinceStep old bucket since after (Portion message more) new =
     × (IsTrue more ↔ HasMoreSince old.history bucket since after) × (new ≡ old)
 SendSinceStep old bucket since after (Refused why) new = (why ≡ Memory) × (new ≡ old)
 SendSinceStep old bucket since after reply new = ⊥
-
--- a copy of the history
-abbrev pub CopyStep : NodeState → ShardReply → NodeState → Type 0
-CopyStep old (Copied history) new = (history ≡ old.history) × (new ≡ old)
-CopyStep old (Refused why) new = (why ≡ Memory) × (new ≡ old)
-CopyStep old reply new = ⊥
 
 -- A device was replaced with one in the state that the call has, and the old one was given back in
 -- the state that the reply has; or the pool refuses it. A call that brought no device is refused as
@@ -315,6 +274,13 @@ RetireStep old dev told (Refused (Pool fault)) new = (device : DeviceState) × I
 RetireStep old dev told (Refused Memory) new = new ≡ old
 RetireStep old dev told reply new = ⊥
 
+-- A visit that goes next to this shard, of so many, ran its errand; it is stopped if the node had no
+-- memory. A call that brought no visit is refused as if no memory were left.
+abbrev pub EnterStep : NodeState → ℕ → ℕ → VisitState → ShardReply → NodeState → Type 0
+EnterStep old count number v (Entered w) new = IsNextAt count number v × HasEntered v old w new
+EnterStep old count number v (Refused why) new = (why ≡ Memory) × (new ≡ old)
+EnterStep old count number v reply new = ⊥
+
 -- one step of a node, with the reply of the shard
 abbrev pub NodeStep : NodeState → Work → ShardReply → NodeState → Type 0
 NodeStep old (calling call) reply new = CallGoes old call (node_reply_of reply) new
@@ -327,12 +293,10 @@ NodeStep old (zeroing page) reply new = PinZeroedStep old page reply new
 NodeStep old (filling page bytes) reply new = PinFilledStep old page bytes reply new
 NodeStep old naming_next reply new = WarmNextStep old reply new
 NodeStep old (forgetting dev from) reply new = ForgetPagesStep old dev from reply new
-NodeStep old (taking_in horizon entries) reply new = TakeInStep old horizon entries reply new
-NodeStep old (answering request) reply new = AnswerStep old request reply new
 NodeStep old (sending_since bucket since after) reply new =
     SendSinceStep old bucket since after reply new
-NodeStep old copying reply new = CopyStep old reply new
 NodeStep old (retiring dev told) reply new = RetireStep old dev told reply new
+NodeStep old (entering count number v) reply new = EnterStep old count number v reply new
 
 -- Steps of a shard
 
@@ -372,8 +336,8 @@ NodeGoes old (changing page) (Changed slot before after) new =
 NodeGoes old (changing page) (Refused why) new = IsNotPinned old page why new
 NodeGoes old (changing page) reply new = ⊥
 
--- Of a shard only the node changes, and it goes as nodes go. A call that brings a page, or a bucket,
--- of another shard is refused with `Foreign`, and nothing changes.
+-- Of a shard only the node changes, and it goes as nodes go. A call that brings a page of another
+-- shard, or a visit that does not go there, is refused with `Foreign`, and nothing changes.
 abbrev pub ShardStep : ShardState → ShardCall → ShardReply → ShardState → Type 0
 ShardStep old call Foreign new = (IsOwn old.count old.number call → ⊥) × (new ≡ old)
 ShardStep old call reply new = IsOwn old.count old.number call
@@ -393,8 +357,6 @@ MayAnswer count i call reply = IsOwn count i call
 
 -- a call of own pages that has no result: a node answers it `Done`, or refuses it
 abbrev pub IsDoneCall : ℕ → ℕ → ShardCall → Type 0
-IsDoneCall count i (Absorb batch) = IsOwn count i (Absorb batch)
-IsDoneCall count i (TakeIn horizon entries) = IsOwn count i (TakeIn horizon entries)
 IsDoneCall count i (Write slot at bytes) = Unit {0}
 IsDoneCall count i WritePages = Unit {0}
 IsDoneCall count i WriteBack = Unit {0}

@@ -11,10 +11,12 @@ use Rattle.warm_shard_machine.specs.declared.calls.ShardCall.TheVariants.{Retire
 use Rattle.warm_shard_machine.specs.declared.calls.ShardReply.{ShardReply}
 use Rattle.warm_shard_machine.specs.declared.calls.ShardReply.TheVariants.{Bytes, Changed, Foreign}
 use Rattle.warm_shard_machine.specs.declared.calls.ShardReply.TheVariants.{Looked, Pinned, Refused}
-use Rattle.warm_shard_machine.specs.declared.calls.ShardReply.TheVariants.{Replaced}
+use Rattle.warm_shard_machine.specs.declared.calls.ShardReply.TheVariants.{Entered, Replaced}
 use Rattle.warm_shard_machine.specs.declared.visitors.Went.{Went}
 use Rattle.warm_shard_machine.specs.declared.visitors.Went.TheVariants as went
+use Rattle.warm_shard_machine.specs.Entering.{IsOnward}
 use Rattle.warm_shard_machine.specs.ToldDevices.{IsTold}
+use Rattle.warm_visits.specs.Visits.{VisitState}
 
 -- `so` holds of the bytes that the reply shows
 abbrev pub Shows : (List ℕ → Type 0) → ShardReply → Type 0
@@ -60,3 +62,9 @@ ReplacesAs state fault dev device (Ok was) call reply = (told : Tag) × (given :
     × (call ≡ Retire dev told) × (reply ≡ Replaced given)
 ReplacesAs state fault dev device (Err e) call reply = (told : Tag) × IsTold told device
     × (call ≡ Retire dev told) × (reply ≡ Refused (Pool (fault e)))
+
+-- What a visit is once it has entered, and the reply: it has gone on; or the shard is not the one of
+-- its next errand.
+abbrev pub EntersAs : VisitState → Option VisitState → ShardReply → Type 0
+EntersAs v (Some w) reply = (reply ≡ Entered w) × IsOnward v w
+EntersAs v None reply = reply ≡ Foreign

@@ -1,29 +1,19 @@
 //! The calls of a shard and its replies. None has space for a message, of 2 KB: a message is in a
 //! box.
 
-use crate::boxed_history::BoxedHistory;
+use crate::told_visit::ToldVisit;
 use boxcar::tag::Tag;
-use warm_frames::{BoxedMessage, MessageList};
+use warm_frames::BoxedMessage;
 use warm_gossip::NodeFault;
-use warm_history::Entry;
 use warm_pool::Slot;
-use warm_stamps::{Bucket, BucketSet, ByteList, Items, PageId, PageList, RefList};
+use warm_stamps::{Bucket, ByteList, PageId, PageList};
 
 /// A call of a shard: a call of its node, what an engine asks of a node beside the calls, or one
 /// that pins a page, uses its bytes where they lie, and unpins it.
 #[derive(Drop)]
 pub enum ShardCall {
-    /// Add these references to the history. All must be to pages of the shard.
-    Absorb(RefList),
     /// Forget all stamps before this time.
     Raise(u64),
-    /// Take entries in, at the later horizon. All must be of pages of the shard.
-    TakeIn {
-        /// The time before which all stamps are forgotten.
-        horizon: u64,
-        /// The entries.
-        entries: Items<Entry>,
-    },
     /// Pin a page of the shard, and load it if it isn't resident.
     Pin(PageId),
     /// Pin a page of the shard, and fill it with zeros. It isn't read.
@@ -64,8 +54,6 @@ pub enum ShardCall {
     WarmNext,
     /// List this many of the hottest pages of the shard, or all if there are fewer.
     WarmList(usize),
-    /// Give the digests of all buckets. Those of other shards' buckets are of no entry.
-    Offer,
     /// Give the first entries of a bucket, of those whose page is greater than `after`.
     Send {
         /// The bucket.
@@ -83,10 +71,6 @@ pub enum ShardCall {
         /// The page after which they begin, or `None` for the first of the bucket.
         after: Option<PageId>,
     },
-    /// Give the entries of these buckets, in messages. All must be buckets of the shard.
-    Answer(BucketSet),
-    /// Give a copy of the history of the shard.
-    CopyHistory,
     /// Write back all dirty pages of the shard. No device is flushed.
     WritePages,
     /// Write back at most this many dirty pages of the shard. No device is flushed.
@@ -116,6 +100,16 @@ pub enum ShardCall {
     Look(PageId),
     /// Let the bytes of a page of the shard be changed, and load it if it isn't resident.
     Change(PageId),
+    /// Let a visit of all shards run its next errand. A value of this call brings no visit, and is
+    /// refused: the visitor [`crate::Entering`] brings one.
+    Enter {
+        /// How many shards the visit goes to.
+        count: usize,
+        /// The number of the shard of its next errand.
+        number: usize,
+        /// The visit before, which exists here only in contracts.
+        visit: ToldVisit,
+    },
 }
 
 /// A reply of a shard.
@@ -148,10 +142,6 @@ pub enum ShardReply {
         /// Whether more follow.
         more: bool,
     },
-    /// The messages with the requested entries, in order.
-    Answers(MessageList),
-    /// A copy of the history.
-    Copied(BoxedHistory),
     /// The device was replaced, and the old one given back.
     Replaced {
         /// The state of the old device, which exists here only in contracts.
@@ -179,4 +169,7 @@ pub enum ShardReply {
         /// The bytes afterwards, which exist here only in contracts.
         after: Tag,
     },
+    /// The visit has run its errand, or the node had no memory for it. It is the visit afterwards,
+    /// which exists here only in contracts.
+    Entered(ToldVisit),
 }

@@ -1,6 +1,7 @@
 //! Laws of one shard. Each function changes nothing: its contract is a theorem, which
 //! `specs/Laws.antt` and `specs/ToldDevices.antt` state in full.
-ghost use Rattle.warm_shard_machine.specs.Laws.{CallsAreANodes};
+ghost use Rattle.warm_gossip.specs.State.{NodeState};
+ghost use Rattle.warm_shard_machine.specs.Laws.{CallsAreANodes, ErrandsAreCalls};
 ghost use Rattle.warm_shard_machine.specs.ToldDevices.{ToldAreOne};
 
 /// A legal list of calls of a shard is a legal list of steps of its node: of its calls, and of what
@@ -15,4 +16,10 @@ pub fn calls_are_a_nodes()
 /// The numbers by which the call `Retire` tells of a device are those of one state alone.
 pub fn told_devices_are_one()
     ensures { ToldAreOne }
+{}
+
+/// What a node says to an errand of a visit that gives, or to one that asks for its digests, is a call
+/// of the node, as a caller of the node sees it: `Absorb`, `Horizon`, `Receive` or `Offer`.
+pub fn errands_are_calls()
+    ensures { (n m : NodeState) → ErrandsAreCalls n m }
 {}

@@ -5,19 +5,21 @@
 //! what its calls do to its node (see [`laws`]), and what a visitor that has it for one turn does.
 #![tactic(auto)]
 
-mod boxed_history;
 mod calls;
+mod entering;
 mod filling;
 pub mod laws;
 mod lending;
 mod replacing;
 mod shard;
+mod told_visit;
 mod visitors;
 
-pub use boxed_history::BoxedHistory;
 pub use calls::{ShardCall, ShardReply};
+pub use entering::Entering;
 pub use filling::Filling;
 pub use lending::tag_of;
 pub use replacing::Replacing;
 pub use shard::{Place, Shard, StateOfShard};
+pub use told_visit::ToldVisit;
 pub use visitors::{Changing, Looking, Pinning, ReadInto, Reading, Unpinning, Went};

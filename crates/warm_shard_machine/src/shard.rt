@@ -1,39 +1,34 @@
 //! One shard as a machine that threads share by turns.
-ghost use Rattle.std.specs.Prelude.{◌≡◌, ◌↔◌, IfOk, IsTrue};
-ghost use Rattle.std.specs.List.{All};
-ghost use Rattle.warm_peer.specs.Answers.{requested_messages};
+ghost use Rattle.std.specs.Prelude.{◌≡◌, ◌↔◌, IsTrue};
 ghost use Rattle.warm_visits.specs.ShardNumbers.{IsShardCount, shard_of};
-ghost use Rattle.warm_shard_machine.specs.ShardSteps.{AnsweredAs, AreOwnBuckets, IsOwn, ShardStep};
-ghost use Rattle.warm_shard_machine.specs.declared.calls.ShardCall.TheVariants.{Answer, Change};
-ghost use Rattle.warm_shard_machine.specs.declared.calls.ShardCall.TheVariants.{Look, Offer};
+ghost use Rattle.warm_shard_machine.specs.ShardSteps.{AnsweredAs, IsOwn, ShardStep};
+ghost use Rattle.warm_shard_machine.specs.declared.calls.ShardCall.TheVariants.{Change};
+ghost use Rattle.warm_shard_machine.specs.declared.calls.ShardCall.TheVariants.{Look};
 ghost use Rattle.warm_shard_machine.specs.declared.calls.ShardCall.TheVariants.{ForgetPages};
 ghost use Rattle.warm_shard_machine.specs.declared.calls.ShardCall.TheVariants.{PinZeroed, Send};
-ghost use Rattle.warm_shard_machine.specs.declared.calls.ShardCall.TheVariants.{SendSince, TakeIn};
-ghost use Rattle.warm_shard_machine.specs.declared.calls.ShardCall.TheVariants.{CopyHistory};
+ghost use Rattle.warm_shard_machine.specs.declared.calls.ShardCall.TheVariants.{SendSince};
 ghost use Rattle.warm_shard_machine.specs.declared.calls.ShardCall.TheVariants.{FlushDevice};
 ghost use Rattle.warm_shard_machine.specs.declared.calls.ShardCall.TheVariants.{WritePage, Unpin};
 ghost use Rattle.warm_shard_machine.specs.declared.calls.ShardCall.TheVariants.{Write, WritePages};
 ghost use Rattle.warm_shard_machine.specs.declared.calls.ShardCall.TheVariants.{WriteSome};
 
-use crate::boxed_history::BoxedHistory;
 use crate::calls::{ShardCall, ShardReply};
 use crate::lending::{Left, Shown, change_in, look_in};
-use std::alloc::{AllocError, Global};
+use std::alloc::Global;
 use std::marker::Model;
 use warm_devices::PageDevice;
-use warm_frames::{BoxedMessage, Message, MessageList};
+use warm_frames::BoxedMessage;
 use warm_gossip::{Node, NodeFault};
-use warm_history::Entry;
 use warm_peer::SentPortion;
-use warm_pool::{NamesPage, Slot};
-use warm_stamps::{BUCKETS, Bucket, BucketSet, ByteList, Items, PageId};
-use warm_turn::Machine;
+use warm_pool::Slot;
 use warm_visits::shard_of;
+use warm_stamps::{Bucket, ByteList, PageId};
+use warm_turn::Machine;
 
 /// One shard of a replica: a node, how many shards there are, and which of them it is.
 ///
-/// It answers the calls of its node, and refuses those that bring a page, or a bucket, of another
-/// shard. Contracts see the three.
+/// It answers the calls of its node, and refuses those that bring a page of another shard. Contracts
+/// see the three.
 pub struct Shard<D: PageDevice> {
     alloc: Global,
     pub(crate) count: usize,
@@ -73,13 +68,24 @@ pub(crate) fn is_own_page(count: usize, number: usize, page: PageId) -> bool
     shard_of(count, page) == number
 }
 
-/// Where a page is: the number of its shard, and of how many. A caller has reckoned it.
+/// Where a page is, or the next errand of a visit: the number of its shard, and of how many. A
+/// caller has reckoned it.
 #[derive(Clone, Copy)]
 pub struct Place {
     /// How many shards there are.
     pub count: usize,
-    /// The number of the page's shard.
+    /// The number of the shard.
     pub number: usize,
+}
+
+// Whether the shard of this number, of so many, is at that place.
+pub(crate) fn is_place(place: Place, count: usize, number: usize) -> bool
+    ensures { IsTrue result ↔ ((place.count ≡ count) × (place.number ≡ number)) }
+{
+    if place.count != count {
+        return false;
+    }
+    place.number == number
 }
 
 // Whether a page is of the shard of this number. Mostly its place says so, and its shard is not
@@ -95,63 +101,32 @@ pub(crate) fn is_own_place(count: usize, number: usize, page: PageId, place: Pla
     is_own_page(count, number, page)
 }
 
-// Whether all items name pages of the shard of this number.
-fn are_own<T: NamesPage>(count: usize, number: usize, items: &[T]) -> bool
-    requires { IsShardCount count }
-    ensures { IsTrue result ↔ All (λ item. shard_of count (T.named item) ≡ number) items.now }
-{
-    for item in items {
-        if !is_own_page(count, number, item.named()) {
-            return false;
-        }
-    }
-    true
-}
-
-// Whether all these buckets are of the shard of this number.
-fn are_own_buckets(count: usize, number: usize, request: BucketSet) -> bool
-    requires { IsShardCount count }
-    ensures { IsTrue result ↔ AreOwnBuckets count number request }
-{
-    for index in 0..BUCKETS {
-        let Some(bucket) = Bucket::new(index) else {
-            unreachable!()
-        };
-        if request.contains(bucket) && usize::from(index) % count != number {
-            return false;
-        }
-    }
-    true
-}
-
-// Whether each page and each bucket that the call brings is of the shard of this number.
+// Whether each page that the call brings is of the shard of this number, and a visit goes there.
 #[inline(always)]
 fn is_own(count: usize, number: usize, call: &ShardCall) -> bool
     requires { IsShardCount count }
     ensures { IsTrue result ↔ IsOwn count number call.now }
 {
     match call {
-        ShardCall::Absorb(batch) => are_own(count, number, batch.as_slice()),
-        ShardCall::TakeIn { entries, .. } => are_own(count, number, entries.as_slice()),
         ShardCall::Pin(page)
         | ShardCall::PinZeroed(page)
         | ShardCall::PinFilled { page, .. }
         | ShardCall::WritePage(page)
         | ShardCall::Look(page)
         | ShardCall::Change(page) => is_own_page(count, number, *page),
-        ShardCall::Answer(request) => are_own_buckets(count, number, *request),
+        ShardCall::Enter {
+            count: of,
+            number: at,
+            ..
+        } => {
+            let place = Place {
+                count: *of,
+                number: *at,
+            };
+            is_place(place, count, number)
+        }
         _ => true,
     }
-}
-
-// The digests that a node offers, in a box. It has the room for a message, so it is a function of
-// its own.
-fn offered<D: PageDevice>(alloc: Global, node: &mut Node<D>) -> Result<ShardReply, NodeFault>
-    ensures { AnsweredAs node.old Offer result node.new }
-{
-    let message = node.offer()?;
-    let boxed = BoxedMessage::new(alloc, message)?;
-    Ok(ShardReply::Sent(boxed))
 }
 
 // The entries that a node sends, in a box.
@@ -185,55 +160,6 @@ fn sent_since<D: PageDevice>(
         message: boxed,
         more,
     })
-}
-
-// The entries of these buckets that a node has, bucket by bucket, in messages.
-fn requested<D: PageDevice>(
-    alloc: Global,
-    node: &Node<D>,
-    request: BucketSet,
-) -> Result<Vec<Message>, AllocError>
-    ensures { IfOk result (λ messages. messages.items
-        ≡ requested_messages node.now.id node.now.history request) }
-{
-    let mut messages = Vec::new(alloc);
-    for bucket in request.iter() {
-        let mut part = node.peer().send_bucket(bucket)?;
-        messages.append(&mut part)?;
-    }
-    Ok(messages)
-}
-
-// The entries of these buckets, in messages.
-fn answered<D: PageDevice>(
-    alloc: Global,
-    node: &Node<D>,
-    request: BucketSet,
-) -> Result<ShardReply, NodeFault>
-    ensures { AnsweredAs node.now (Answer request) result node.now }
-{
-    let messages = requested(alloc, node, request)?;
-    Ok(ShardReply::Answers(MessageList::of(messages)))
-}
-
-// Takes entries in, at the later horizon.
-fn taken_in<D: PageDevice>(
-    node: &mut Node<D>,
-    horizon: u64,
-    entries: Items<Entry>,
-) -> Result<ShardReply, NodeFault>
-    ensures { AnsweredAs node.old (TakeIn horizon entries) result node.new }
-{
-    node.join_entries(horizon, entries.as_slice())?;
-    Ok(ShardReply::Done)
-}
-
-// A copy of a node's history, in a box.
-fn copied<D: PageDevice>(alloc: Global, node: &Node<D>) -> Result<ShardReply, NodeFault>
-    ensures { AnsweredAs node.now CopyHistory result node.now }
-{
-    let copy = BoxedHistory::copy_of(alloc, node.history())?;
-    Ok(ShardReply::Copied(copy))
 }
 
 // Writes back all dirty pages of a node. No device is flushed.
@@ -283,12 +209,7 @@ fn answer<D: PageDevice>(
     ensures { AnsweredAs node.old call result node.new }
 {
     match call {
-        ShardCall::Absorb(batch) => {
-            node.absorb(batch.as_slice())?;
-            Ok(ShardReply::Done)
-        }
         ShardCall::Raise(time) => Ok(ShardReply::Kept(node.raise(time))),
-        ShardCall::TakeIn { horizon, entries } => taken_in(node, horizon, entries),
         ShardCall::Pin(page) => Ok(ShardReply::Pinned(node.pin(page)?)),
         ShardCall::PinZeroed(page) => zeroed(node, page),
         ShardCall::PinFilled { .. } => Err(NodeFault::Memory),
@@ -299,15 +220,12 @@ fn answer<D: PageDevice>(
         ShardCall::WarmStep => Ok(ShardReply::Loaded(node.warm_step()?)),
         ShardCall::WarmNext => Ok(ShardReply::Page(node.warm_next()?)),
         ShardCall::WarmList(n) => Ok(ShardReply::Pages(node.warm_list(n)?)),
-        ShardCall::Offer => offered(alloc, node),
         ShardCall::Send { bucket, after } => sent(alloc, node, bucket, after),
         ShardCall::SendSince {
             bucket,
             since,
             after,
         } => sent_since(alloc, node, bucket, since, after),
-        ShardCall::Answer(request) => answered(alloc, node, request),
-        ShardCall::CopyHistory => copied(alloc, node),
         ShardCall::WritePages => write_pages(node),
         ShardCall::WriteSome(limit) => write_some(node, limit),
         ShardCall::WritePage(page) => write_page(node, page),
@@ -320,6 +238,7 @@ fn answer<D: PageDevice>(
         ShardCall::Retire { .. } => Err(NodeFault::Memory),
         ShardCall::Look(page) => looked(node, page),
         ShardCall::Change(page) => changed(node, page),
+        ShardCall::Enter { .. } => Err(NodeFault::Memory),
     }
 }
 
@@ -407,8 +326,8 @@ impl<D: PageDevice> Shard<D> {
         }
     }
 
-    /// Answers a call: `ShardStep`. A call that brings a page, or a bucket, of another shard is
-    /// answered `Foreign`, and nothing has changed.
+    /// Answers a call: `ShardStep`. One that is of another shard is answered `Foreign`, and nothing
+    /// has changed.
     #[inline(always)]
     pub fn call(&mut self, call: ShardCall) -> ShardReply
         ensures { ShardStep self.old call result self.new }

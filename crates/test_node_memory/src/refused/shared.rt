@@ -9,7 +9,7 @@ use std::alloc::Global;
 use std::sync::Wait;
 use test_kit::cases::{Ended, Met};
 use test_kit::{bucket, entry, history_of_pages, once, page, references_to, replica};
-use warm_concurrent::{Attached, NotReceived, SharedFault, SharedShards, Sharing};
+use warm_concurrent::{Attached, SharedFault, SharedShards, Sharing};
 use warm_devices::MemDevice;
 use warm_frames::{EntryList, Message};
 use warm_gossip::NodeFault;
@@ -274,10 +274,7 @@ fn receive<R: Wait>(
         horizon: 15,
         entries,
     };
-    if let Err(why) = shared.receive(rt, alloc, thread, &message) {
-        let NotReceived::Taking(at) = why else {
-            return Err(met.broken("a horizon is refused"));
-        };
+    if let Err(at) = shared.receive(rt, alloc, thread, &message) {
         met.refuse(
             at.fault == MEMORY && at.shard < 2,
             "entries are refused for memory alone",
@@ -354,29 +351,24 @@ fn flush<R: Wait>(
 }
 
 // The digests of both shards are offered. A refused offer changes nothing.
-fn offer<R: Wait>(met: &mut Met, rt: &R, shared: &Shared, thread: &mut Thread) -> Result<(), Ended>
+fn offer<R: Wait>(
+    met: &mut Met,
+    rt: &R,
+    alloc: Global,
+    shared: &Shared,
+    thread: &mut Thread,
+) -> Result<(), Ended>
     requires { AreOf shared.now thread.old.passes }
     ensures { AreOf shared.now thread.new.passes }
 {
-    if let Err(at) = shared.offer(rt, thread) {
+    if let Err(at) = shared.offer(rt, alloc, thread) {
         let is_refused = at.fault == MEMORY && at.shard < 2;
         met.refuse(is_refused, "an offer is refused for memory alone")?;
-        let again = shared.offer(rt, thread).is_ok();
+        let again = shared.offer(rt, alloc, thread).is_ok();
         met.holds(again, "an offer is refused again by shared shards")?;
     }
     let is_unchanged = is_known_below(met, rt, shared, thread, 2)?;
     met.holds(is_unchanged, "an offer changes nothing of shared shards")
-}
-
-// Whether a message that brings nothing was refused for memory, and by which call: while a shard
-// made an offer, or while its answers were taken.
-fn is_refused_answer(why: NotReceived) -> bool {
-    match why {
-        NotReceived::Comparing(at) => at.fault == MEMORY && at.shard < 2,
-        // (the list of answers may be refused after the last shard)
-        NotReceived::Answering(at) => at.fault == MEMORY && at.shard <= 2,
-        _ => false,
-    }
 }
 
 // A message that brings nothing is answered.
@@ -391,11 +383,10 @@ fn answer<R: Wait>(
     requires { AreOf shared.now thread.old.passes }
     ensures { AreOf shared.now thread.new.passes }
 {
-    if let Err(why) = shared.receive(rt, alloc, thread, message) {
-        met.refuse(
-            is_refused_answer(why),
-            "answers are refused for memory alone",
-        )?;
+    if let Err(at) = shared.receive(rt, alloc, thread, message) {
+        // (the list of answers may be refused after the last shard)
+        let is_refused = at.fault == MEMORY && at.shard <= 2;
+        met.refuse(is_refused, "answers are refused for memory alone")?;
         let again = shared.receive(rt, alloc, thread, message).is_ok();
         met.holds(again, "answers are refused again by shared shards")?;
     }
@@ -475,7 +466,7 @@ pub(crate) fn rows<R: Wait>(met: &mut Met, rt: &R, alloc: Global) -> Result<(), 
     attach(met, alloc, &shared, &mut thread)?;
     absorb(met, rt, alloc, &shared, &mut thread)?;
     copy(met, rt, alloc, &shared, &mut thread)?;
-    offer(met, rt, &shared, &mut thread)?;
+    offer(met, rt, alloc, &shared, &mut thread)?;
     answer(met, rt, alloc, &shared, &mut thread, &digest(0))?;
     answer(met, rt, alloc, &shared, &mut thread, &request(0))?;
     ask(met, rt, alloc, &shared, &mut thread, &digest(15))?;

@@ -1,6 +1,6 @@
 use Rattle.std.proofs.Common.{◌≡◌, ℕ, max, ◌<◌, [], ◌∷◌, ◌++◌, length, refl, sym, ap, subst, ◌∙◌, arith}
 use Rattle.warm_concurrent.specs.Raising.{RaisesFirstTo, RaisesTo}
-use Rattle.warm_concurrent.proofs.GatheredOfferLemmas.{none_gave, one_gave}
+use Rattle.warm_concurrent.proofs.FirstGaveLemmas.{none_gave, one_gave}
 use Rattle.warm_concurrent.proofs.RaisingLemmas.{latest_more, raised_first}
 use Rattle.warm_concurrent.proofs.history_calls.raise_all.Goals as goal
 

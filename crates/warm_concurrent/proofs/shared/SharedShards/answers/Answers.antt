@@ -1,15 +1,16 @@
-use Rattle.std.proofs.Common.{◌≡◌, ℕ, inl, length, refl, subst, arith}
-use Rattle.warm_concurrent.specs.Copying.{CopiesFirst}
+use Rattle.std.proofs.Common.{◌≡◌, inr, sym, subst, ◌∙◌}
+use Rattle.warm_peer.specs.Answers.{IsAnswer}
+use Rattle.warm_concurrent.specs.Attached.{OpenedAs, opened_id}
 use Rattle.warm_concurrent.proofs.shared.SharedShards.answers.Goals as goal
 
 pub returns-in_default-clause-stopped : goal.returns-in_default-clause-stopped
 returns-in_default-clause-stopped g c =
-    let old = c.args.attached.now.passes in
-    let new = c.history.new.attached.passes in
     let copied = c.in_ok-copy.ensures.copied in
-    let same : length old ≡ c.count.result = omega (arith, c.requires.count, c.count.ensures.value) in
-    (copied.0, new, subst (λ (n : ℕ). CopiesFirst copied.0 n old new) same copied.1, inl (omega (arith, same), refl, refl))
+    inr (c.after_all.ensures.shard ∙ c.count.ensures.value ∙ sym c.requires.count, c.after_all.ensures.fault, (copied.0, copied.1))
 
 pub returns-clause-answers : goal.returns-clause-answers
 returns-clause-answers g c =
-    (c.id.result, c.id.ensures, c.in_ok-copy.copy, c.in_ok-copy.ensures.copied, c.in-Ok.ensures)
+    let turns = c.args.self.now in
+    let is : c.id.result ≡ opened_id turns = c.id.ensures.value in
+    let copy = c.in_ok-copy.copy in
+    (subst (λ id. OpenedAs id turns) is c.id.ensures.opened, copy, c.in_ok-copy.ensures.copied, subst (λ id. IsAnswer id copy c.args.message.now c.in-Ok.answers) is c.in-Ok.ensures)

@@ -1,14 +1,10 @@
-use Rattle.std.proofs.Common.{◌≡◌, inl, length, refl, subst, arith}
-use Rattle.warm_concurrent.specs.Copying.{CopiesFirst}
+use Rattle.std.proofs.Common.{inr, sym, ◌∙◌}
 use Rattle.warm_concurrent.proofs.shared.SharedShards.warm_list.Goals as goal
 
 pub returns-in_default-clause-stopped : goal.returns-in_default-clause-stopped
 returns-in_default-clause-stopped g c =
-    let old = c.args.attached.now.passes in
-    let new = c.history.new.attached.passes in
     let copied = c.in_ok-copy.ensures.copied in
-    let same : length old ≡ c.count.result = omega (arith, c.requires.count, c.count.ensures.value) in
-    (copied.0, new, subst (λ n. CopiesFirst copied.0 n old new) same copied.1, inl (omega (arith, same), refl, refl))
+    inr (c.after_all.ensures.shard ∙ c.count.ensures.value ∙ sym c.requires.count, c.after_all.ensures.fault, (copied.0, copied.1))
 
 pub returns-clause-listed : goal.returns-clause-listed
 returns-clause-listed g c = (c.in_ok-copy.copy, c.in_ok-copy.ensures.copied, c.in-Ok.ensures)
