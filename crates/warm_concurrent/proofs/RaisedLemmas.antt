@@ -55,11 +55,14 @@ module _ (old : List ShardPass) (time : ℕ) (rest : List Errand) where
   raises_from (suc n) j s t [] long plan so runs well =
       let at : t.visit.plan ≡ raise_from (length old) time j ++ rest = ap (λ (x : Visiting). x.visit.plan) (sym runs) ∙ plan in
       let first = at ∙ ap (λ es. es ++ rest) (raise_here (length old) time j (omega (arith, long))) in
-      inr (j, record {
-        below = omega (arith, long);
-        next = (λ i. shard_next (well i) (first i));
-        risen = subst (λ (x : Visiting). HaveRisen j x.passes) runs so;
-      })
+      inr (
+        j,
+        record {
+          below = omega (arith, long);
+          next = (λ i. shard_next (well i) (first i));
+          risen = subst (λ (x : Visiting). HaveRisen j x.passes) runs so;
+        },
+      )
   raises_from (suc n) j s t (o ∷ os) long plan so (y, entry, runs) well =
       let lt : j < length old = omega (arith, long) in
       let gave = turn_gives s y j (only_horizon time) (raise_from (length old) time (j + 1) ++ rest) o.call o.reply (plan ∙ ap (λ es. es ++ rest) (raise_here (length old) time j lt)) entry (never_refused y t os runs well) in

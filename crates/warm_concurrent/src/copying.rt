@@ -17,8 +17,8 @@ use warm_history::History;
 use warm_history::laws::prove_is_history;
 use warm_peer::Peer;
 use warm_rank::warm_list;
-use warm_visits::Visit;
 use warm_stamps::{PageList, ReplicaId};
+use warm_visits::Visit;
 
 // The n hottest pages of a history.
 fn hottest_of(alloc: Global, history: &History, n: usize) -> Result<PageList, AllocError>

@@ -18,9 +18,9 @@ use warm_devices::PageDevice;
 use warm_pool::Slot;
 use warm_shard_machine::{Shard, ShardCall, ShardReply};
 use warm_shards::ShardSlot;
-use warm_visits::shard_of;
 use warm_stamps::PageId;
 use warm_turn::{Pass, Turn};
+use warm_visits::shard_of;
 
 // Pins a page in its shard, and fills it with zeros.
 fn pin_zeroed_in<D: PageDevice + Send, R: Wait>(

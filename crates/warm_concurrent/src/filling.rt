@@ -18,9 +18,9 @@ use warm_devices::PageDevice;
 use warm_pool::Slot;
 use warm_shard_machine::{Filling, Shard, Went, tag_of};
 use warm_shards::ShardSlot;
-use warm_visits::shard_of;
 use warm_stamps::PageId;
 use warm_turn::{Pass, Turn};
+use warm_visits::shard_of;
 
 // Pins a page in its shard, with these bytes in place of a read, which a tag tells too.
 fn fill_in<D: PageDevice + Send, R: Wait>(

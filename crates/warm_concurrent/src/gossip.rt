@@ -19,9 +19,9 @@ use warm_frames::{BoxedMessage, Message, MessageList};
 use warm_history::History;
 use warm_peer::SentPortion;
 use warm_shard_machine::{Shard, ShardCall, ShardReply};
-use warm_visits::Visit;
 use warm_stamps::{Bucket, PageId};
 use warm_turn::{Pass, Turn};
+use warm_visits::Visit;
 
 // Sends the first entries of a bucket of a shard.
 fn send_in<D: PageDevice + Send, R: Wait>(

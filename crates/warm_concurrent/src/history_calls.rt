@@ -17,9 +17,9 @@ use std::alloc::Global;
 use std::sync::Wait;
 use warm_devices::PageDevice;
 use warm_shard_machine::{Shard, ShardCall, ShardReply};
-use warm_visits::Visit;
 use warm_stamps::{PageList, Reference};
 use warm_turn::{Pass, Turn};
+use warm_visits::Visit;
 
 // Raises the horizon of one shard.
 fn raise_in<D: PageDevice + Send, R: Wait>(

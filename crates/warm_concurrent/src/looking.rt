@@ -12,9 +12,9 @@ use crate::shared::{Attached, SharedShards, visit_or_back};
 use std::sync::Wait;
 use warm_devices::PageDevice;
 use warm_shard_machine::{Changing, Looking, Place, Shard, Went};
-use warm_visits::shard_of;
 use warm_stamps::PageId;
 use warm_turn::{Pass, Turn};
+use warm_visits::shard_of;
 
 // Looks at a page in its shard, after a wait if other callers are there.
 //

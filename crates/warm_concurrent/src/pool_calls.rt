@@ -24,9 +24,9 @@ use warm_shard_machine::{
     Pinning, ReadInto, Reading, Shard, ShardCall, ShardReply, Unpinning, Went,
 };
 use warm_shards::ShardSlot;
-use warm_visits::shard_of;
 use warm_stamps::{ByteList, PageId};
 use warm_turn::{Pass, Turn};
+use warm_visits::shard_of;
 
 // Pins a page in its shard.
 fn pin_in<D: PageDevice + Send, R: Wait>(

@@ -13,9 +13,9 @@ use std::marker::Model;
 use std::sync::Wait;
 use warm_devices::PageDevice;
 use warm_shard_machine::{Shard, ShardCall, ShardReply};
-use warm_visits::shard_of;
 use warm_stamps::{PageId, ReplicaId};
 use warm_turn::{Pass, Turn, Visit};
+use warm_visits::shard_of;
 
 /// The shards of one replica, each behind a turn of its own. Threads share them by `&`; each has an
 /// [`Attached`] of its own.

@@ -15,8 +15,8 @@ use std::sync::Wait;
 use warm_devices::PageDevice;
 use warm_gossip::NodeFault;
 use warm_shard_machine::{Entering, Place, Shard};
-use warm_visits::Visit;
 use warm_turn::{Pass, Turn};
+use warm_visits::Visit;
 
 /// Where a call of the whole stopped, and why: the errands of the call before this one were run, in
 /// the order of the shards. This one was not, nor were those after it.

@@ -20,9 +20,9 @@ use crate::visiting::Stopped;
 use std::sync::Wait;
 use warm_devices::PageDevice;
 use warm_shard_machine::{Shard, ShardCall, ShardReply};
-use warm_visits::shard_of;
 use warm_stamps::PageId;
 use warm_turn::{Pass, Turn};
+use warm_visits::shard_of;
 
 /// Where writing back stopped, and why.
 #[derive(Clone, Copy, PartialEq, Eq, Debug)]

@@ -21,9 +21,9 @@ use warm_frames::BoxedMessage;
 use warm_gossip::{Node, NodeFault};
 use warm_peer::SentPortion;
 use warm_pool::Slot;
-use warm_visits::shard_of;
 use warm_stamps::{Bucket, ByteList, PageId};
 use warm_turn::Machine;
+use warm_visits::shard_of;
 
 /// One shard of a replica: a node, how many shards there are, and which of them it is.
 ///
