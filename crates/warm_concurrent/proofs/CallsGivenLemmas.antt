@@ -12,8 +12,11 @@ use Rattle.warm_gossip.specs.declared.fault.NodeFault.{NodeFault}
 use Rattle.warm_gossip.specs.declared.fault.NodeFault.TheVariants.{Memory}
 use Rattle.warm_peer.specs.Answers.{refs_in, requested_buckets}
 use Rattle.warm_visits.specs.ShardNumbers.{IsShardCount, of_first_shards, of_shard, shard_of}
+use Rattle.warm_visits.specs.declared.stage.Stage.{Stage}
+use Rattle.warm_visits.specs.declared.stage.Stage.TheVariants.{Raising}
 use Rattle.warm_visits.specs.Visits.{Errand, VisitState, absorb_visit, at_each, copy_visit, copying, give_plan, join_visit, next_shard, offer_visit, offering, raise_plan, receive_visit, send_plan}
 use Rattle.warm_visits.proofs.ErrandLemmas.{some_count}
+use Rattle.warm_visits.proofs.StageLemmas.{NeverRaises, never_given, never_offered, never_sent}
 use Rattle.warm_visits.proofs.Lists.{from_filter, in_both, in_filter, in_first, in_second}
 use Rattle.warm_shard_machine.specs.declared.calls.ShardCall.{ShardCall}
 use Rattle.warm_shard_machine.specs.declared.calls.ShardCall.TheVariants.{Enter, Raise}
@@ -24,13 +27,13 @@ use Rattle.warm_concurrent.specs.declared.fault.SharedFault.{SharedFault}
 use Rattle.warm_concurrent.specs.declared.fault.SharedFault.TheVariants.{Node, TurnsSpent}
 use Rattle.warm_concurrent.specs.Attached.{ShardPass, shard_pass}
 use Rattle.warm_concurrent.specs.Clauses.{AnsweredByShard, CallFails}
-use Rattle.warm_concurrent.specs.Given.{HasGiven, HasGivenNothing, HasGivenUpTo, SameGiven, ThreadsGive, gave_call, gave_together, given_to_first, only_horizon}
-use Rattle.warm_concurrent.specs.Visiting.{EntryFails, IsGoneThrough, VisitFails, VisitStops, as_stopped, visiting}
+use Rattle.warm_concurrent.specs.Given.{HasGiven, HasGivenNothing, SameGiven, ThreadsGive, gave_call, gave_together, given_to_first, given_up_to, only_horizon}
+use Rattle.warm_concurrent.specs.Visiting.{EntryFails, IsGoneThrough, StageFails, VisitFails, VisitStops, as_stopped, visiting}
 use Rattle.warm_concurrent.specs.Whole.{Does, RaiseFails}
 use Rattle.warm_concurrent.proofs.GivenLemmas.{EachGives, Gives, all_given, as_given, given_as, given_by_sum, given_none, given_then, gives_as, gives_called, gives_none, gives_spent, nothing, one_nothing, other_same, raised_each}
 use Rattle.warm_concurrent.proofs.EntryLemmas.{names_next}
 use Rattle.warm_concurrent.proofs.LawLemmas.{below}
-use Rattle.warm_concurrent.proofs.RaisedLemmas.{RisenAll, all_both, all_risen, both_parts, parts_then, raises, risen_read}
+use Rattle.warm_concurrent.proofs.RaisedLemmas.{RisenAll, all_both, all_risen, both_parts, parts_then, raises, risen_read, risen_stage}
 use Rattle.warm_concurrent.proofs.ReadLemmas.{AsksNone, asks_each, asks_sends, reads_nothing}
 use Rattle.warm_concurrent.proofs.ReferenceSetLemmas.{none_union, same_self, sum, union_none}
 use Rattle.warm_concurrent.proofs.VisitedLemmas.{PartGave, batch_given, gave_refused, part_gave}
@@ -394,36 +397,63 @@ risen_up_to time k j why old new v w stops next lt risen =
     subst (λ l. HasGiven (given_to_first (length old) l (only_horizon time)) old new) same
     (stopped (only_horizon time) j old stops.mid new (omega (arith, lt)) risen (entry_nothing w k why stops.mid new stops.there stops.fails))
 
+-- what it gave in a later stage
+in_stage : (stage : Stage) (k : ℕ) (S : ReferenceSet) (old new : List ShardPass) → stage ≢ Raising
+    → HasGiven (only_horizon S.horizon ∪ given_to_first (length old) k S) old new
+    → HasGiven (given_up_to stage (length old) k S) old new
+in_stage Raising k S old new later gave = absurd (later refl)
+in_stage stage k S old new later gave = gave
+
+-- what it gave while it raised
+while_raising : (stage : Stage) (k : ℕ) (S : ReferenceSet) (old new : List ShardPass)
+    → Some Raising ≡ Some stage
+    → HasGiven (given_to_first (length old) k (only_horizon S.horizon)) old new
+    → HasGiven (given_up_to stage (length old) k S) old new
+while_raising stage k S old new is gave =
+    let same : Raising ≡ stage = cc in
+    subst (λ (s : Stage). HasGiven (given_up_to s (length old) k S) old new) same gave
+
 -- if no memory was left for the visit, it gave nothing
-none_up_to : (S : ReferenceSet) (k : ℕ) (old new : List ShardPass) → k ≡ 0 → new ≡ old
-    → HasGivenUpTo k S old new
-none_up_to S k old new first same =
+none_up_to : (S : ReferenceSet) (stage : Stage) (k : ℕ) (old new : List ShardPass)
+    → stage ≡ Raising → k ≡ 0 → new ≡ old → HasGiven (given_up_to stage (length old) k S) old new
+none_up_to S stage k old new raising first same =
     let T = only_horizon S.horizon in
-    inl (subst (λ (n : ℕ). HasGiven (given_to_first (length old) n T) old new) (sym first)
+    subst (λ (s : Stage). HasGiven (given_up_to s (length old) k S) old new) (sym raising)
+    (subst (λ (n : ℕ). HasGiven (given_to_first (length old) n T) old new) (sym first)
     (stopped T 0 old old new (omega arith) (no_parts T old) (given_none (length old) old new same)))
 
-gives_up_to : (S : ReferenceSet) (k : ℕ) (why : SharedFault) (old new : List ShardPass)
-    (v : VisitState) → IsShardCount (length old)
+gives_up_to : (S : ReferenceSet) (stage : Stage) (k : ℕ) (why : SharedFault)
+    (old new : List ShardPass) (v : VisitState) → IsShardCount (length old)
     → v.plan ≡ raise_plan (length old) S.horizon ++ give_plan (length old) S
-    → VisitFails v k why old new → HasGivenUpTo k S old new
-gives_up_to S k why old new v count plan (inl none) = none_up_to S k old new none.0 none.2
-gives_up_to S k why old new v count plan (inr (w, stops)) =
+    → StageFails v stage k why old new → HasGiven (given_up_to stage (length old) k S) old new
+gives_up_to S stage k why old new v count plan (inl none) =
+    none_up_to S stage k old new none.0 none.1 none.3
+gives_up_to S stage k why old new v count plan (inr (w, stops, at)) =
     let well : w.stopped ≡ false = names_next w.stopped w.plan k (sym stops.next) in
-    elim (raises old S.horizon (give_plan (length old) S) v w stops.mid stops.goes plan well) [
-      | inl r ↦ inr (parts_up_to S k why old new v w count stops well (subst (λ l. k < l) ((parts_then old S w k stops.mid r well (inl stops.next)).count ∙ r.risen.count) stops.there) r)
-      | inr some ↦ inl (risen_up_to S.horizon k some.0 why old new v w stops some.1.next some.1.below some.1.risen)
+    let rest = give_plan (length old) S in
+    elim (raises old S.horizon rest v w stops.mid stops.goes plan well) [
+      | inl r ↦
+          let there : k < length old = subst (λ l. k < l) ((parts_then old S w k stops.mid r well (inl stops.next)).count ∙ r.risen.count) stops.there in
+          in_stage stage k S old new (risen_stage old S.horizon rest stage (never_given (length old) S) (visiting w stops.mid) r at) (parts_up_to S k why old new v w count stops well there r)
+      | inr some ↦
+          while_raising stage k S old new (sym some.1.raising ∙ at) (risen_up_to S.horizon k some.0 why old new v w stops some.1.next some.1.below some.1.risen)
     ]
 
-reading_up_to : (time : ℕ) (rest : List Errand) (k : ℕ) (why : SharedFault)
+reading_up_to : (time : ℕ) (rest : List Errand) (stage : Stage) (k : ℕ) (why : SharedFault)
     (old new : List ShardPass) (v : VisitState) → IsShardCount (length old) → AsksNone rest
-    → v.plan ≡ raise_plan (length old) time ++ rest → VisitFails v k why old new
-    → HasGivenUpTo k (only_horizon time) old new
-reading_up_to time rest k why old new v count asks plan (inl none) = none_up_to (only_horizon time) k old new none.0 none.2
-reading_up_to time rest k why old new v count asks plan (inr (w, stops)) =
+    → NeverRaises rest → v.plan ≡ raise_plan (length old) time ++ rest
+    → StageFails v stage k why old new
+    → HasGiven (given_up_to stage (length old) k (only_horizon time)) old new
+reading_up_to time rest stage k why old new v count asks never plan (inl none) =
+    none_up_to (only_horizon time) stage k old new none.0 none.1 none.3
+reading_up_to time rest stage k why old new v count asks never plan (inr (w, stops, at)) =
     let well : w.stopped ≡ false = names_next w.stopped w.plan k (sym stops.next) in
+    let S = only_horizon time in
     elim (raises old time rest v w stops.mid stops.goes plan well) [
-      | inl r ↦ inr (reads_up_to time rest k why old new v w count asks stops r)
-      | inr some ↦ inl (risen_up_to time k some.0 why old new v w stops some.1.next some.1.below some.1.risen)
+      | inl r ↦
+          in_stage stage k S old new (risen_stage old time rest stage never (visiting w stops.mid) r at) (reads_up_to time rest k why old new v w count asks stops r)
+      | inr some ↦
+          while_raising stage k S old new (sym some.1.raising ∙ at) (risen_up_to time k some.0 why old new v w stops some.1.next some.1.below some.1.risen)
     ]
 
 -- ---- messages
@@ -439,15 +469,16 @@ received_all id (Want sender time request) old new count (w, gone) =
 received_all id (Digest sender time digests) old new count (w, gone) =
     all_given (only_horizon time) old new count (all_risen old new (receive_visit id (length old) (Digest sender time digests)) w gone.goes gone.well gone.over time (at_each (length old) offering) (asks_each offering (λ b. refl) (length old)) refl)
 
-receipt_up_to : (id : ℕ) (message : Message) (k : ℕ) (why : SharedFault) (old new : List ShardPass)
-    → IsShardCount (length old) → VisitFails (receive_visit id (length old) message) k why old new
-    → HasGivenUpTo k (refs_in message) old new
-receipt_up_to id (Entries sender time entries) k why old new count fails =
-    gives_up_to (refs_in (Entries sender time entries)) k why old new (receive_visit id (length old) (Entries sender time entries)) count refl fails
-receipt_up_to id (Want sender time request) k why old new count fails =
-    reading_up_to time (send_plan (length old) request) k why old new (receive_visit id (length old) (Want sender time request)) count (asks_sends (length old) (requested_buckets request)) refl fails
-receipt_up_to id (Digest sender time digests) k why old new count fails =
-    reading_up_to time (at_each (length old) offering) k why old new (receive_visit id (length old) (Digest sender time digests)) count (asks_each offering (λ b. refl) (length old)) refl fails
+receipt_up_to : (id : ℕ) (message : Message) (stage : Stage) (k : ℕ) (why : SharedFault)
+    (old new : List ShardPass) → IsShardCount (length old)
+    → StageFails (receive_visit id (length old) message) stage k why old new
+    → HasGiven (given_up_to stage (length old) k (refs_in message)) old new
+receipt_up_to id (Entries sender time entries) stage k why old new count fails =
+    gives_up_to (refs_in (Entries sender time entries)) stage k why old new (receive_visit id (length old) (Entries sender time entries)) count refl fails
+receipt_up_to id (Want sender time request) stage k why old new count fails =
+    reading_up_to time (send_plan (length old) request) stage k why old new (receive_visit id (length old) (Want sender time request)) count (asks_sends (length old) (requested_buckets request)) (never_sent (length old) (requested_buckets request)) refl fails
+receipt_up_to id (Digest sender time digests) stage k why old new count fails =
+    reading_up_to time (at_each (length old) offering) stage k why old new (receive_visit id (length old) (Digest sender time digests)) count (asks_each offering (λ b. refl) (length old)) (never_offered (length old)) refl fails
 
 -- ---- the law
 
@@ -458,9 +489,9 @@ threads_give old new count = record {
   raised = λ time so. all_given (only_horizon time) old new count (raised_each time (length old) old new so);
   raise_stopped = λ time k why so. raise_stopped time k why old new so;
   received = λ id message so. received_all id message old new count so;
-  receipt_stopped = λ id message k why so. receipt_up_to id message k why old new count so;
+  receipt_stopped = λ id message stage k why so. receipt_up_to id message stage k why old new count so;
   joined = λ id h so. all_given (references_of h) old new count (all_both old new (join_visit id (length old) h) so.0 so.1.goes so.1.well so.1.over (references_of h) refl);
-  join_stopped = λ id h k why so. gives_up_to (references_of h) k why old new (join_visit id (length old) h) count refl so;
+  join_stopped = λ id h stage k why so. gives_up_to (references_of h) stage k why old new (join_visit id (length old) h) count refl so;
   called = λ i call reply lt so. called_given old new i call reply lt so;
   refused = λ i call why lt fails. gave_nothing (length old) old new (fails_each old new i call why (gave_none call) lt fails);
   done = λ call k none so. gave_nothing k old new (as_given (Does call) nothing k old new (λ i p q r. gives_as (gave_call call Done) (set_of_list []) p q none (gives_called p q call Done r)) so);

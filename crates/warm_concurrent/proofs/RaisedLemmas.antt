@@ -1,19 +1,23 @@
 -- What a visit gave that first raises all shards: the horizon to each, and then to each its part.
-use Rattle.std.proofs.Common.{◌≡◌, ◌⊎◌, inl, inr, ℕ, zero, suc, ◌+◌, ◌<◌, false, List, [], ◌∷◌, ◌++◌, length, max, refl, sym, ap, subst, ◌∙◌, arith}
+use Rattle.std.proofs.Common.{◌≡◌, ◌≢◌, ◌⊎◌, inl, inr, ℕ, zero, suc, ◌+◌, ◌<◌, false, List, [], ◌∷◌, ◌++◌, length, max, refl, sym, ap, subst, ◌∙◌, arith}
 use Rattle.std.specs.Prelude.{None, Some}
 use Rattle.warm_stamps.specs.declared.Reference.{Reference}
 use Rattle.warm_history.specs.ReferenceSets.{ReferenceSet, set_of_list, ◌∪◌}
 use Rattle.warm_machine.specs.declared.operation.Operation.{Operation}
 use Rattle.warm_machine.specs.Runs.{Runs}
 use Rattle.warm_visits.specs.ShardNumbers.{of_shard}
+use Rattle.warm_visits.specs.declared.stage.Stage.{Stage}
+use Rattle.warm_visits.specs.declared.stage.Stage.TheVariants.{Raising}
 use Rattle.warm_visits.specs.Plans.{raise_from}
+use Rattle.warm_visits.specs.Stages.{next_stage}
 use Rattle.warm_visits.specs.Visits.{Errand, Said, VisitState, give_plan, next_shard, raise_plan, shard_next}
+use Rattle.warm_visits.proofs.StageLemmas.{NeverRaises, never_again, other_stage}
 use Rattle.warm_visits.proofs.VisitPlans.{raise_begun, raise_end, raise_here}
 use Rattle.warm_concurrent.specs.Attached.{ShardPass}
 use Rattle.warm_concurrent.specs.Given.{only_horizon}
 use Rattle.warm_concurrent.specs.Visiting.{EntersByTurn, GoesByTurns, Visiting, visiting}
 use Rattle.warm_concurrent.proofs.GivenLemmas.{EachGives, Gives, given_as, given_then, nothing}
-use Rattle.warm_concurrent.proofs.ReadLemmas.{AsksNone, reads_nothing}
+use Rattle.warm_concurrent.proofs.ReadLemmas.{AsksNone, keeps_on, reads_nothing}
 use Rattle.warm_concurrent.proofs.ReferenceSetLemmas.{union_none}
 use Rattle.warm_concurrent.proofs.VisitedLemmas.{EndsAt, PartGave, never_refused, part_gave, parts_given, turn_gives}
 use Rattle.warm_concurrent.proofs.WholeCallLemmas.{none_first, one_first}
@@ -37,6 +41,7 @@ module _ (old : List ShardPass) (time : ℕ) (rest : List Errand) where
   pub record RisenSome (k : ℕ) (t : Visiting) : Type 0 where
     pub below : k < length old
     pub next : next_shard t.visit ≡ Some k
+    pub raising : next_stage t.visit.plan ≡ Some Raising
     pub risen : HaveRisen k t.passes
 
   raises_from : (n j : ℕ) (s t : Visiting) (es : List (Operation Errand Said)) → j + n ≡ length old
@@ -60,6 +65,7 @@ module _ (old : List ShardPass) (time : ℕ) (rest : List Errand) where
         record {
           below = omega (arith, long);
           next = (λ i. shard_next (well i) (first i));
+          raising = ap next_stage first;
           risen = subst (λ (x : Visiting). HaveRisen j x.passes) runs so;
         },
       )
@@ -113,6 +119,13 @@ risen_read old time rest none t r =
     let also : EachGives nothing (length old) mid t.passes = subst (λ n. EachGives nothing n mid t.passes) r.risen.count later in
     given_as (λ i. only_horizon time ∪ set_of_list []) (λ i. only_horizon time) (length old) old t.passes (λ i. union_none (only_horizon time))
     (given_then (λ i. only_horizon time) nothing (length old) old mid t.passes r.risen also)
+
+-- once all are raised, the visit is in another stage
+pub risen_stage : (old : List ShardPass) (time : ℕ) (rest : List Errand) (stage : Stage)
+    → NeverRaises rest → (t : Visiting) → RisenAll old time rest t
+    → next_stage t.visit.plan ≡ Some stage → stage ≢ Raising
+risen_stage old time rest stage never t r at =
+    other_stage t.visit.plan stage (keeps_on (λ (v : VisitState). NeverRaises v.plan) never_again r.mid t r.entries (subst NeverRaises (sym r.plan) never) r.runs) at
 
 -- a visit without errands names no shard
 no_next : (w : VisitState) (k : ℕ) → w.stopped ≡ false → w.plan ≡ [] → next_shard w ≡ Some k → ⊥

@@ -82,7 +82,7 @@ reads_nothing s t (o ∷ os) none (y, (lt, (n, m, enters), answered), runs) =
 -- ---- what it made
 
 -- what each entry keeps is kept
-keeps_on : (P : VisitState → Type 0)
+pub keeps_on : (P : VisitState → Type 0)
     → ((v w : VisitState) (e : Errand) (said : Said) → P v → EntersAny v e said w → P w)
     → (s t : Visiting) (es : List (Operation Errand Said)) → P s.visit → Runs EntersByTurn s es t
     → P t.visit

@@ -1,5 +1,5 @@
 -- What shards were given, all together, and what a thread's calls gave them.
-use Rattle.std.specs.Prelude.{◌≡◌, ◌⊎◌, ℕ, zero, suc, ◌<◌, List, [], ◌∷◌, ◌++◌, length, map, Some, Ok}
+use Rattle.std.specs.Prelude.{◌≡◌, ℕ, zero, suc, ◌<◌, List, [], ◌∷◌, ◌++◌, length, map, Some, Ok}
 use Rattle.std.specs.Prelude.{Result, slice_index_or}
 use mathlib.Core.Option.{some}
 use mathlib.Core.List.{IsPrefix}
@@ -23,6 +23,8 @@ use Rattle.warm_gossip.specs.State.{NodeState}
 use Rattle.warm_gossip.specs.Victims.{IsEvicted}
 use Rattle.warm_shards.specs.Shards.{AreShards, shard_at, whole}
 use Rattle.warm_visits.specs.ShardNumbers.{IsShardCount, of_first_shards}
+use Rattle.warm_visits.specs.declared.stage.Stage.{Stage}
+use Rattle.warm_visits.specs.declared.stage.Stage.TheVariants.{Raising}
 use Rattle.warm_visits.specs.Visits.{VisitState, absorb_visit, copy_visit, join_visit, offer_visit}
 use Rattle.warm_visits.specs.Visits.{receive_visit}
 use Rattle.warm_shard_machine.specs.declared.calls.ShardCall.{ShardCall}
@@ -43,7 +45,7 @@ use Rattle.warm_concurrent.specs.Opening.{openings, shards_over}
 use Rattle.warm_shard_machine.specs.Entering.{gave_entry}
 use Rattle.warm_shard_machine.specs.Laws.{Log}
 use Rattle.warm_shard_machine.specs.ShardSteps.{ShardState, ShardStep}
-use Rattle.warm_concurrent.specs.Visiting.{GoesByTurns, IsGoneThrough, VisitFails}
+use Rattle.warm_concurrent.specs.Visiting.{GoesByTurns, IsGoneThrough, StageFails, VisitFails}
 use Rattle.warm_concurrent.specs.Whole.{DoneFirst, RaiseFails, RaisesFirst}
 
 -- Sets of references
@@ -137,12 +139,12 @@ abbrev pub given_to_first : ℕ → ℕ → ReferenceSet → ReferenceSet
 given_to_first count zero S = set_of_list []
 given_to_first count (suc k) S = of_first_shards count (suc k) S
 
--- What a visit gave that first brings all shards the horizon of S, and then each its part, and that
--- stopped at shard k: the horizon, to the shards before; or the horizon, to all, and their parts, to
--- the shards before.
-abbrev pub HasGivenUpTo : ℕ → ReferenceSet → List ShardPass → List ShardPass → Type 0
-HasGivenUpTo k S old new = HasGiven (given_to_first (length old) k (only_horizon S.horizon)) old new
-    ⊎ HasGiven (only_horizon S.horizon ∪ given_to_first (length old) k S) old new
+-- What a visit has given that first brings all of `count` shards the horizon of S, and then each its
+-- part, and that is at shard k in this stage: while it raises, the horizon to the shards before;
+-- later the horizon to all, and their parts to the shards before.
+abbrev pub given_up_to : Stage → ℕ → ℕ → ReferenceSet → ReferenceSet
+given_up_to Raising count k S = given_to_first count k (only_horizon S.horizon)
+given_up_to stage count k S = only_horizon S.horizon ∪ given_to_first count k S
 
 -- What a thread's call gave: the batch that it absorbed, the horizon that it raised, or the
 -- references and the horizon of the message that it received, or of the history that it joined; of
@@ -164,14 +166,14 @@ pub record CallsAreGiven (old new : List ShardPass) : Type 0 where
   pub received : (id : ℕ) (message : Message)
       → IsGoneThrough (receive_visit id (length old) message) old new
       → HasGiven (refs_in message) old new
-  pub receipt_stopped : (id : ℕ) (message : Message) (k : ℕ) (why : SharedFault)
-      → VisitFails (receive_visit id (length old) message) k why old new
-      → HasGivenUpTo k (refs_in message) old new
+  pub receipt_stopped : (id : ℕ) (message : Message) (stage : Stage) (k : ℕ) (why : SharedFault)
+      → StageFails (receive_visit id (length old) message) stage k why old new
+      → HasGiven (given_up_to stage (length old) k (refs_in message)) old new
   pub joined : (id : ℕ) (h : HistoryView) → IsGoneThrough (join_visit id (length old) h) old new
       → HasGiven (references_of h) old new
-  pub join_stopped : (id : ℕ) (h : HistoryView) (k : ℕ) (why : SharedFault)
-      → VisitFails (join_visit id (length old) h) k why old new
-      → HasGivenUpTo k (references_of h) old new
+  pub join_stopped : (id : ℕ) (h : HistoryView) (stage : Stage) (k : ℕ) (why : SharedFault)
+      → StageFails (join_visit id (length old) h) stage k why old new
+      → HasGiven (given_up_to stage (length old) k (references_of h)) old new
   pub called : (i : ℕ) (call : ShardCall) (reply : ShardReply) → i < length old
       → AnsweredByShard old i call reply new → HasGiven (gave_call call reply) old new
   pub refused : (i : ℕ) (call : ShardCall) (why : SharedFault) → i < length old

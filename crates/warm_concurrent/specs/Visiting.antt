@@ -3,7 +3,10 @@ use Rattle.std.specs.Prelude.{◌≡◌, ◌⊎◌, ℕ, ◌<◌, false, true, L
 use Rattle.warm_machine.specs.declared.operation.Operation.{Operation}
 use Rattle.warm_machine.specs.Runs.{Runs}
 use Rattle.warm_gossip.specs.declared.fault.NodeFault.TheVariants.{Memory}
+use Rattle.warm_visits.specs.declared.stage.Stage.{Stage}
+use Rattle.warm_visits.specs.declared.stage.Stage.TheVariants.{Raising, Sending}
 use Rattle.warm_visits.specs.Laws.{AreOwnErrands, EntersAny}
+use Rattle.warm_visits.specs.Stages.{next_stage}
 use Rattle.warm_visits.specs.Visits.{Errand, Said, VisitState, next_shard}
 use Rattle.warm_shard_machine.specs.Entering.{IsOnward}
 use Rattle.warm_shard_machine.specs.declared.calls.ShardCall.TheVariants.{Enter}
@@ -79,6 +82,12 @@ pub record VisitStops (v w : VisitState) (k : ℕ) (why : SharedFault) (old new 
   pub there : k < length mid
   pub fails : EntryFails w k why mid new
 
+-- the visit has stopped so at shard k, and this stage it was in
+abbrev pub StopsInStage : VisitState → Stage → ℕ → SharedFault → List ShardPass → List ShardPass
+    → Type 0
+StopsInStage v stage k why old new = (w : VisitState) × VisitStops v w k why old new
+    × (next_stage w.plan ≡ Some stage)
+
 -- An errand of the visit at shard k failed, after all before it were run; or no memory was left for
 -- the visit, and nothing has changed.
 abbrev pub VisitFails : VisitState → ℕ → SharedFault → List ShardPass → List ShardPass → Type 0
@@ -89,3 +98,19 @@ VisitFails v k why old new = ((k ≡ 0) × (why ≡ Node Memory) × (new ≡ old
 abbrev pub VisitOrEndFails : VisitState → ℕ → SharedFault → List ShardPass → List ShardPass → Type 0
 VisitOrEndFails v k why old new = VisitFails v k why old new
     ⊎ ((k ≡ length old) × (why ≡ Node Memory) × IsGoneThrough v old new)
+
+-- Visits that raise all shards first
+
+-- An errand of the visit failed so, in this stage; or no memory was left for the visit, no shard was
+-- raised, and nothing has changed.
+abbrev pub StageFails : VisitState → Stage → ℕ → SharedFault → List ShardPass → List ShardPass
+    → Type 0
+StageFails v stage k why old new =
+    ((stage ≡ Raising) × (k ≡ 0) × (why ≡ Node Memory) × (new ≡ old))
+    ⊎ StopsInStage v stage k why old new
+
+-- It failed so; or all its errands were run, and no memory was left for the list of what was sent.
+abbrev pub StageOrEndFails : VisitState → Stage → ℕ → SharedFault → List ShardPass
+    → List ShardPass → Type 0
+StageOrEndFails v stage k why old new = StageFails v stage k why old new
+    ⊎ ((stage ≡ Sending) × (k ≡ length old) × (why ≡ Node Memory) × IsGoneThrough v old new)

@@ -7,11 +7,11 @@ ghost use Rattle.warm_shard_machine.specs.declared.calls.ShardReply.TheVariants.
 ghost use Rattle.warm_concurrent.specs.Attached.{AreOf, AreTurns, opened_id};
 ghost use Rattle.warm_concurrent.specs.Clauses.{CallEnds};
 ghost use Rattle.warm_concurrent.specs.Gossip.{ShardsOffer, ReceiveFails, ShardsReceive};
-ghost use Rattle.warm_concurrent.specs.Visiting.{IsGoneThrough, VisitFails};
+ghost use Rattle.warm_concurrent.specs.Visiting.{IsGoneThrough, StageFails, VisitFails};
 
 use crate::fault::SharedFault;
 use crate::shared::{Attached, SharedShards, call_shard};
-use crate::visiting::Stopped;
+use crate::visiting::{Stopped, StoppedInStage};
 use std::alloc::Global;
 use std::sync::Wait;
 use warm_devices::PageDevice;
@@ -180,34 +180,39 @@ impl<D: PageDevice + Send> SharedShards<D> {
     /// [`warm_frames::check_times`] before.
     ///
     /// # Errors
-    /// `TurnsSpent`, while the shards forget: the shards before that of the error have the horizon,
-    /// and nothing else has changed. Later all shards have it, and of entries the shards before have
-    /// their part: `TurnsSpent`, or `Node(Memory)`, if that shard had no memory. `Node(Memory)` at
-    /// shard 0 also if no memory was left to begin, and nothing has changed; at the count of the
-    /// shards, if none was left for the list of the messages. To take the message in once more does
-    /// no harm.
+    /// The stage says what the shards have taken in, and the shard at which it stopped.
+    ///
+    /// - `Raising`: the shards before this one have the horizon, and nothing else has changed.
+    ///   `TurnsSpent`; or `Node(Memory)` at shard 0, if no memory was left to begin.
+    /// - `Giving`: all shards have the horizon, and the shards before this one the entries of their
+    ///   pages; the others have no entry. `TurnsSpent`, or `Node(Memory)` in the shard.
+    /// - `Offering`, `Sending`: all shards have the horizon, and nothing else has changed.
+    ///   `TurnsSpent`, or `Node(Memory)` in the shard; in the stage `Sending`, `Node(Memory)` at the
+    ///   count of the shards, if no memory was left for the list of the messages.
+    ///
+    /// To take the message in once more does no harm.
     pub fn receive<R: Wait>(
         &self,
         rt: &R,
         alloc: Global,
         attached: &mut Attached<D>,
         message: &Message,
-    ) -> Result<MessageList, Stopped>
+    ) -> Result<MessageList, StoppedInStage>
         requires { AreOf self.now attached.old.passes }
         ensures attached { AreOf self.now attached.new.passes }
         ensures received { IfOk result (λ messages. ShardsReceive (opened_id self.now)
             message.now messages attached.old.passes attached.new.passes) }
-        ensures stopped { IfErr result (λ at. ReceiveFails (opened_id self.now) message.now
-            at.shard at.fault attached.old.passes attached.new.passes) }
+        ensures stopped { IfErr result (λ why. ReceiveFails (opened_id self.now) message.now
+            why.stage why.at.shard why.at.fault attached.old.passes attached.new.passes) }
         ensures pins { attached.new.pins ≡ attached.old.pins }
     {
         let count = self.count();
         let Ok(visit) = Visit::receive(alloc, self.id(), count, message) else {
-            return Err(Stopped::before_all());
+            return Err(StoppedInStage::before_all());
         };
         let after = self.go_through(rt, attached, visit)?;
         let Ok(answers) = after.into_answers(alloc) else {
-            return Err(Stopped::after_all(count));
+            return Err(StoppedInStage::after_all(count));
         };
         Ok(answers)
     }
@@ -225,19 +230,19 @@ impl<D: PageDevice + Send> SharedShards<D> {
         alloc: Global,
         attached: &mut Attached<D>,
         other: &History,
-    ) -> Result<(), Stopped>
+    ) -> Result<(), StoppedInStage>
         requires { AreOf self.now attached.old.passes }
         ensures attached { AreOf self.now attached.new.passes }
         ensures joined { OnOk result (IsGoneThrough
             (join_visit (opened_id self.now) (length self.now) other.now)
             attached.old.passes attached.new.passes) }
-        ensures stopped { IfErr result (λ at. VisitFails
+        ensures stopped { IfErr result (λ why. StageFails
             (join_visit (opened_id self.now) (length self.now) other.now)
-            at.shard at.fault attached.old.passes attached.new.passes) }
+            why.stage why.at.shard why.at.fault attached.old.passes attached.new.passes) }
         ensures pins { attached.new.pins ≡ attached.old.pins }
     {
         let Ok(visit) = Visit::join(alloc, self.id(), self.count(), other) else {
-            return Err(Stopped::before_all());
+            return Err(StoppedInStage::before_all());
         };
         self.go_through(rt, attached, visit)?;
         Ok(())

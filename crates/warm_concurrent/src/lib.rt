@@ -23,6 +23,6 @@ pub use fault::SharedFault;
 pub use retiring::NotRetired;
 pub use shared::{Attached, SharedShards};
 pub use sharing::Sharing;
-pub use visiting::Stopped;
+pub use visiting::{Stopped, StoppedInStage};
 pub use warm_shard_machine::{Shard, ShardCall, ShardReply, StateOfShard};
 pub use writing::NotWritten;

@@ -5,6 +5,7 @@ pub mod GivenLemmas
 pub mod PartEntryLemmas
 pub mod ErrandLemmas
 pub mod PlanGiven
+pub mod StageLemmas
 pub mod VisitExamples
 pub mod VisitMessageLemmas
 pub mod VisitReadsPortions

@@ -3,6 +3,7 @@ pub mod Parts
 pub mod Digests
 pub mod Given
 pub mod Visits
+pub mod Stages
 pub mod Plans
 pub mod VisitReads
 pub mod VisitParts

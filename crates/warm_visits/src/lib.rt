@@ -19,10 +19,12 @@ pub mod laws;
 mod reading;
 mod sending;
 mod shard_numbers;
+mod stage;
 mod visit;
 mod visit_messages;
 
 pub use batch_parts::{only_shard, parts_of};
 pub use digests::fill_digests;
 pub use shard_numbers::{is_shard_count, shard_of};
+pub use stage::Stage;
 pub use visit::{Visit, entries_of};

@@ -1,6 +1,7 @@
 //! What a visit reads of shards: their digests, the entries of buckets, or all that they know.
 ghost use Rattle.std.specs.Prelude.{◌≡◌, ◌≢◌, ◌<◌, ◌≤◌, ℕ, [], if◌then◌else◌, nat_lt};
 ghost use Rattle.std.specs.Prelude.{IfNone, IfOk, IfSome, None, Some};
+ghost use Rattle.warm_visits.specs.Stages.{next_stage};
 ghost use Rattle.warm_visits.specs.VisitMessages.{final_message, first_message, without_message};
 ghost use Rattle.warm_visits.specs.VisitReads.{IsReadingVisit, ReadsOne, copying_visit};
 ghost use Rattle.warm_visits.specs.VisitReads.{reading_of, waits_for};
@@ -11,6 +12,7 @@ ghost use Rattle.warm_visits.specs.Visits.{offer_visit, offering, send_plan};
 use crate::copying::BoxedCopying;
 use crate::gathering::BoxedGathering;
 use crate::sending::Sending;
+use crate::stage::Stage;
 use std::alloc::{AllocError, Global};
 use std::marker::Model;
 use warm_devices::PageDevice;
@@ -167,6 +169,13 @@ impl Reading {
         next_in(&self.task, self.count)
     }
 
+    /// What the next errand asks, if there is one.
+    pub(crate) fn stage(&self) -> Option<Stage>
+        ensures { result ≡ next_stage self.now.plan }
+    {
+        stage_in(&self.task, self.count)
+    }
+
     /// Runs the next errand, at the node of its shard. If the node has no memory for it, nothing
     /// changes.
     ///
@@ -278,6 +287,21 @@ fn next_in(task: &Task, count: usize) -> Option<usize>
             None => None,
         },
         Task::Copy(copying) => below(copying.shard(), count),
+    }
+}
+
+// What the next errand of a task asks, if there is one.
+fn stage_in(task: &Task, count: usize) -> Option<Stage>
+    requires { 0 < count }
+    ensures { (id : ℕ) → result ≡ next_stage (reading_of id count task.now).plan }
+{
+    match task {
+        Task::Gather(gathering) if gathering.as_gathering().shard < count => Some(Stage::Offering),
+        Task::Gather(_) => None,
+        Task::Send(sending) if sending.bucket.is_some() => Some(Stage::Sending),
+        Task::Send(_) => None,
+        Task::Copy(copying) if copying.shard() < count => Some(Stage::Copying),
+        Task::Copy(_) => None,
     }
 }
 

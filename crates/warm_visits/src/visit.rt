@@ -5,6 +5,7 @@
 ghost use Rattle.std.specs.Prelude.{◌≡◌, ◌≢◌, ◌<◌, ◌≤◌, false, IfOk, IfSome, None};
 ghost use Rattle.warm_history.specs.Histories.{entries_of, history_of_entries_at, references_of};
 ghost use Rattle.warm_visits.specs.ShardNumbers.{IsShardCount};
+ghost use Rattle.warm_visits.specs.Stages.{next_stage};
 ghost use Rattle.warm_visits.specs.VisitParts.{IsReader, earlier, visit_of};
 ghost use Rattle.warm_visits.specs.Visits.{HasEntered, absorb_visit, answers_of};
 ghost use Rattle.warm_visits.specs.Visits.{copy_of, copy_visit, entries_left, give_visit};
@@ -15,6 +16,7 @@ ghost use Rattle.warm_visits.specs.declared.visit.Work.TheVariants.{Read};
 use crate::batch_parts::parts_of;
 use crate::giving::Parts;
 use crate::reading::{Reading, below};
+use crate::stage::Stage;
 use std::alloc::{AllocError, Global};
 use std::marker::Model;
 use warm_devices::PageDevice;
@@ -269,6 +271,22 @@ impl Visit {
             Work::Raise => None,
             Work::Give(_) => below(self.shard, self.count),
             Work::Read(reading) => reading.next(),
+        }
+    }
+
+    /// What the next errand asks, also if its shard has refused it; `None` if no errand is left.
+    /// Allocation-free.
+    pub fn stage(&self) -> Option<Stage>
+        ensures { result ≡ next_stage self.now.plan }
+    {
+        if self.rising < self.count {
+            return Some(Stage::Raising);
+        }
+        match &self.work {
+            Work::Raise => None,
+            Work::Give(_) if self.shard < self.count => Some(Stage::Giving),
+            Work::Give(_) => None,
+            Work::Read(reading) => reading.stage(),
         }
     }
 

@@ -9,12 +9,13 @@ use std::alloc::Global;
 use std::sync::Wait;
 use test_kit::cases::{Ended, Met};
 use test_kit::{bucket, entry, history_of_pages, once, page, references_to, replica};
-use warm_concurrent::{Attached, SharedFault, SharedShards, Sharing};
+use warm_concurrent::{Attached, SharedFault, SharedShards, Sharing, StoppedInStage};
 use warm_devices::MemDevice;
 use warm_frames::{EntryList, Message};
 use warm_gossip::NodeFault;
 use warm_refbuffer::RefBuffer;
 use warm_stamps::Bucket;
+use warm_visits::Stage;
 
 type Shared = SharedShards<MemDevice>;
 
@@ -253,6 +254,17 @@ fn publish<R: Wait>(
     met.holds(sent.is_ok(), "a portion is refused again by shared shards")
 }
 
+// Whether a call of two shards that raises them first was refused for memory: no visit was made, and
+// no shard was raised; or all were, and it stopped in this stage, at a shard below `count`.
+fn is_refused(why: StoppedInStage, stage: Stage, count: usize) -> bool {
+    let shards = match why.stage {
+        Stage::Raising => 1,
+        other if other == stage => count,
+        _ => 0,
+    };
+    why.at.fault == MEMORY && why.at.shard < shards
+}
+
 // Entries of the pages 8 and 9, one of each shard, at the horizon 15, which drops what was known.
 // If a shard refuses its entries, the shards before it have taken theirs in.
 fn receive<R: Wait>(
@@ -274,11 +286,9 @@ fn receive<R: Wait>(
         horizon: 15,
         entries,
     };
-    if let Err(at) = shared.receive(rt, alloc, thread, &message) {
-        met.refuse(
-            at.fault == MEMORY && at.shard < 2,
-            "entries are refused for memory alone",
-        )?;
+    if let Err(why) = shared.receive(rt, alloc, thread, &message) {
+        let is_refused = is_refused(why, Stage::Giving, 2);
+        met.refuse(is_refused, "entries are refused for memory alone")?;
         let again = shared.receive(rt, alloc, thread, &message).is_ok();
         met.holds(again, "entries are refused again by shared shards")?;
     }
@@ -299,11 +309,10 @@ fn join<R: Wait>(
     ensures { AreOf shared.now thread.new.passes }
 {
     let other = history_of_pages(alloc, 64, 66, 30)?;
-    if let Err(at) = shared.join(rt, alloc, thread, &other) {
-        let is_part = is_known_below(met, rt, shared, thread, at.shard)?;
-        let is_refused = at.fault == MEMORY && at.shard < 2 && is_part;
+    if let Err(why) = shared.join(rt, alloc, thread, &other) {
+        let is_part = is_known_below(met, rt, shared, thread, why.at.shard)?;
         met.refuse(
-            is_refused,
+            is_refused(why, Stage::Giving, 2) && is_part,
             "the shards before the one named take a refused history in",
         )?;
         let again = shared.join(rt, alloc, thread, &other).is_ok();
@@ -371,6 +380,12 @@ fn offer<R: Wait>(
     met.holds(is_unchanged, "an offer changes nothing of shared shards")
 }
 
+// Whether a message that brings nothing was refused for memory: while a shard offered, or while
+// entries were sent (the list of answers may be refused after the last shard).
+fn is_refused_answer(why: StoppedInStage) -> bool {
+    is_refused(why, Stage::Offering, 2) || is_refused(why, Stage::Sending, 3)
+}
+
 // A message that brings nothing is answered.
 fn answer<R: Wait>(
     met: &mut Met,
@@ -383,9 +398,8 @@ fn answer<R: Wait>(
     requires { AreOf shared.now thread.old.passes }
     ensures { AreOf shared.now thread.new.passes }
 {
-    if let Err(at) = shared.receive(rt, alloc, thread, message) {
-        // (the list of answers may be refused after the last shard)
-        let is_refused = at.fault == MEMORY && at.shard <= 2;
+    if let Err(why) = shared.receive(rt, alloc, thread, message) {
+        let is_refused = is_refused_answer(why);
         met.refuse(is_refused, "answers are refused for memory alone")?;
         let again = shared.receive(rt, alloc, thread, message).is_ok();
         met.holds(again, "answers are refused again by shared shards")?;
