@@ -1,51 +1,17 @@
--- The stage of a visit: a shard that is still to be raised, and a visit that raises no more.
-use Rattle.std.proofs.Common.{◌≡◌, ◌≢◌, ℕ, ◌+◌, ◌%◌, ◌<◌, ◌≤◌, Bool, true, false, List, [], ◌∷◌, ◌++◌, map, refl, sym, ap, subst, ◌∙◌, arith}
-use Rattle.std.specs.Prelude.{None, Option, Some}
+-- A visit that raises no more, and its stage.
+use Rattle.std.proofs.Common.{◌≡◌, ◌≢◌, ℕ, zero, suc, ◌+◌, ◌%◌, Bool, true, false, List, [], ◌∷◌, ◌++◌, map, refl, sym, ap, subst, ◌∙◌}
+use Rattle.std.specs.Prelude.{None, Some}
 use Rattle.std.specs.List.{flat_map, range_with_len}
 use Rattle.warm_stamps.specs.declared.Reference.{Reference}
 use Rattle.warm_history.specs.ReferenceSets.{ReferenceSet}
 use Rattle.warm_frames.specs.declared.message.Message.{Message}
 use Rattle.warm_peer.specs.Answers.{requested_buckets}
-use Rattle.warm_visits.specs.declared.giving.Parts.{Parts}
 use Rattle.warm_visits.specs.declared.stage.Stage.{Stage}
 use Rattle.warm_visits.specs.declared.stage.Stage.TheVariants.{Giving, Raising}
-use Rattle.warm_visits.specs.declared.visit.Work.TheVariants.{Give}
 use Rattle.warm_visits.specs.Laws.{EntersAny}
-use Rattle.warm_visits.specs.Plans.{raise_from}
 use Rattle.warm_visits.specs.Stages.{giving_stage, next_stage, stage_of}
-use Rattle.warm_visits.specs.VisitParts.{part_at, work_from}
-use Rattle.warm_visits.specs.Visits.{After, Ask, ComparesOffers, Errand, Made, Said, Takes, VisitState, at_each, at_shard, compares, copied, copying, each_shard, gathered, give_part, give_plan, given, giving, goes_on, offered, offering, onward, part_errand, refused, send_plan, sending, sent}
+use Rattle.warm_visits.specs.Visits.{After, Ask, ComparesOffers, Errand, Made, Said, Takes, VisitState, at_each, at_shard, compares, copied, copying, each_shard, gathered, give_part, give_plan, given, giving, goes_on, offered, offering, onward, part_errand, refused, sending, sent}
 use Rattle.warm_visits.specs.ShardNumbers.{of_shard}
-use Rattle.warm_visits.proofs.VisitPlans.{give_end, give_here, raise_end, raise_here}
-
--- ---- the next errand
-
--- a shard that is still to be raised
-pub stage_raised : (count time rising : ℕ) (later : List Errand) → rising < count
-    → next_stage (raise_from count time rising ++ later) ≡ Some Raising
-stage_raised count time rising later lt = ap (λ es. next_stage (es ++ later)) (raise_here count time rising lt)
-
--- once all are, what comes then
-pub stage_later : (count time rising : ℕ) (later : List Errand) → count ≤ rising
-    → next_stage (raise_from count time rising ++ later) ≡ next_stage later
-stage_later count time rising later le = ap (λ es. next_stage (es ++ later)) (raise_end count time rising le)
-
-some_given : (rs : List Reference) → rs ≢ [] → giving_stage rs ≡ Giving
-some_given [] some = absurd (some refl)
-some_given (r ∷ rs) some = refl
-
--- a shard that has a part
-pub stage_part : (count shard : ℕ) (parts : Parts) → shard < count → (part_at parts shard).given ≢ []
-    → next_stage (work_from count (Give parts) shard) ≡ Some Giving
-stage_part count shard parts lt some =
-    ap next_stage (give_here count (part_at parts) shard lt some)
-    ∙ ap (λ s. Some s) (some_given (part_at parts shard).given some)
-
-pub stage_parts_end : (count shard : ℕ) (parts : Parts) → count ≤ shard
-    → next_stage (work_from count (Give parts) shard) ≡ None
-stage_parts_end count shard parts le = ap next_stage (give_end count (part_at parts) shard le)
-
--- ---- visits that raise no more
 
 -- none of these errands raises
 abbrev pub NeverRaises : List Errand → Type 0
