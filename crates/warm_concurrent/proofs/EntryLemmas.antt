@@ -1,5 +1,5 @@
 -- One entry of a visit by a turn: what the answer of the shard says of it.
-use Rattle.std.proofs.Common.{◌≡◌, ℕ, ◌<◌, Bool, true, false, List, [], ◌∷◌, ◌++◌, length, Ok, Err, refl, sym, ap, subst, ◌∙◌}
+use Rattle.std.proofs.Common.{◌≡◌, ◌≢◌, ℕ, ◌<◌, Bool, true, false, List, [], ◌∷◌, ◌++◌, length, Ok, Err, refl, sym, ap, subst, ◌∙◌}
 use Rattle.std.specs.Prelude.{Some, None}
 use Rattle.warm_machine.specs.declared.operation.Operation.{Operation}
 use Rattle.warm_machine.specs.Runs.{Runs, operation}
@@ -9,6 +9,7 @@ use Rattle.warm_gossip.specs.declared.fault.NodeFault.{NodeFault}
 use Rattle.warm_gossip.specs.declared.fault.NodeFault.TheVariants.{Memory}
 use Rattle.warm_gossip.specs.State.{NodeState}
 use Rattle.warm_visits.specs.ShardNumbers.{IsShardCount}
+use Rattle.warm_visits.specs.Stages.{next_stage}
 use Rattle.warm_visits.specs.Laws.{AreOwnErrands, EntersAny}
 use Rattle.warm_visits.specs.Visits.{After, Ask, ComparesOffers, Errand, HasEntered, Made, Said, Takes, VisitState, compares, copied, copying, gathered, given, giving, offered, offering, receive_visit, refused, result_of, sending, sent, shard_next}
 use Rattle.warm_visits.proofs.VisitErrands.{errands_are_own}
@@ -64,6 +65,13 @@ pub well_by : (b : Bool) → Ok tt ≡ result_of b → b ≡ false
 well_by true is = absurd (cc)
 well_by false is = refl
 
+-- a visit that names a shard is in a stage
+pub some_stage : (b : Bool) (plan : List Errand) (shard : ℕ) → shard_next b plan ≡ Some shard
+    → next_stage plan ≢ None
+some_stage true plan shard is = absurd (cc)
+some_stage false [] shard is = absurd (cc)
+some_stage false (e ∷ es) shard is = λ none. absurd (cc)
+
 -- ---- one entry
 
 module _ (old new : List ShardPass) (total shard : ℕ) (v : VisitState) (c : ShardCall) (r : ShardReply)
@@ -75,6 +83,12 @@ module _ (old new : List ShardPass) (total shard : ℕ) (v : VisitState) (c : Sh
       let so : MayAnswer total shard (Enter total shard v) (Entered w) = subst (λ x. MayAnswer total shard (Enter total shard v) x) reply (subst (λ x. MayAnswer total shard x r) call may) in
       let gone = so (refl, refl) in
       (gone.0, gone.1, gone.2.1)
+
+  -- a visit that was refused has the same errands
+  pub same_plan : (w : VisitState) → r ≡ Entered w → w.stopped ≡ true → w.plan ≡ v.plan
+  same_plan w reply stops =
+      let gone = says w reply in
+      ap (λ (x : VisitState). x.plan) (stopped_as v w gone.0 gone.1 gone.2 stops)
 
   -- a shard of the turns is at its place
   pub not_elsewhere : r ≡ Foreign → ⊥

@@ -22,7 +22,7 @@ returns-in_default-into_answers-clause-stopped g c =
     let m = c.args.message.now in
     let long : c.count-count.result ≡ length old = c.count-count.ensures.value ∙ sym c.requires.count in
     let at : c.in-Ok.visit ≡ receive_visit (opened_id c.args.self.now) (length old) m = c.in-Ok.ensures ∙ (λ i. receive_visit (c.id.ensures.value i) (long i) m) in
-    inr (c.after_all.ensures.shard ∙ long, c.after_all.ensures.fault, (after, subst (λ (v : VisitState). GoneThrough v after old new) at c.in_ok-after.ensures.gone))
+    inr (c.after_all.ensures.stage, c.after_all.ensures.shard ∙ long, c.after_all.ensures.fault, (after, subst (λ (v : VisitState). GoneThrough v after old new) at c.in_ok-after.ensures.gone))
 
 pub returns-clause-received : goal.returns-clause-received
 returns-clause-received g c =
