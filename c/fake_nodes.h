@@ -515,7 +515,8 @@ static int fake_put(
 }
 
 /* A frame is its kind, its horizon, and of digests one byte for each bucket, of a request one byte
- * for each of buckets 0 to 7, of entries the bucket and, high byte first, how many there are. */
+ * for each of buckets 0 to 7, of entries the bucket, how many there are, high byte first, and the
+ * latest of their stamps. */
 enum { FAKE_ENTRIES = 1, FAKE_DIGESTS = 2, FAKE_REQUEST = 3 };
 
 /* Two frames of a bucket of which something is known, of page 1 and of page 2; an empty one of any
@@ -664,6 +665,7 @@ int visit_receive(visit *of, const node_limits *limits, const uint8_t *frame, si
     MUST(frame[0] != FAKE_DIGESTS || length >= 66);
     size_t entries = frame[0] == FAKE_ENTRIES ? (size_t)frame[3] << 8 | frame[4] : 0;
     if (frame[1] > limits->time || frame[1] > limits->horizon) return WARM_LATE_HORIZON;
+    if (entries > 0 && frame[5] > limits->time) return WARM_LATE_STAMP;
     if (entries > 0 && (limits->known > limits->pages || entries > limits->pages - limits->known))
         return WARM_TOO_MANY_PAGES;
     void *block = malloc(1);

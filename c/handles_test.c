@@ -361,6 +361,34 @@ static void test_attaching(void) {
     nothing_left();
 }
 
+/* A handle that is open has both of its visits. */
+static void call_whole(warm *handle) {
+    uint8_t answer;
+    uint64_t horizon;
+    size_t length;
+    OK(warm_raise(handle, 1, &horizon));
+    OK(warm_next_answer(handle, &answer, 1, &length));
+    MUST(horizon == 1 && length == 0);
+}
+
+/* One allocation alone fails, or one lock: those after it do not hide that. */
+static void test_one_failure(void) {
+    for (size_t count = 1; count <= 4; count *= 4) {
+        warm first = {0}, second = {0};
+        fails_once = true;
+        EACH_REFUSED(open_with(&first, 1, count, 2 * count, devices, FAKE_DEVICES),
+            (nothing_left(), first.at == NULL));
+        int there = blocks;
+        EACH_REFUSED(warm_attach(&first, &second), second.at == NULL && blocks == there);
+        fails_once = false;
+        call_whole(&first);
+        call_whole(&second);
+        OK(warm_close(&second));
+        OK(warm_close(&first));
+        nothing_left();
+    }
+}
+
 int main(void) {
     test_options();
     test_options_of_devices();
@@ -373,6 +401,7 @@ int main(void) {
     if (FEWER == 1) test_abandoning_many();
     test_known_pins();
     test_attaching();
+    test_one_failure();
     puts("handles_test: as expected");
     return 0;
 }

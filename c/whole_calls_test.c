@@ -103,6 +103,24 @@ static void test_limits_of_horizons(void) {
     OK(warm_abandon(&handle));
 }
 
+/* A stamp is within the limit of times, and may be later than that of horizons. */
+static void test_limits_of_stamps(void) {
+    const uint8_t entries[10] = {FAKE_ENTRIES, 3, 0, 0, 1, 5};
+    warm handle = {0};
+    open_shards(&handle, 4);
+    for (uint64_t limit = 2; limit < 7; limit++) {
+        for (uint64_t other = 2; other < 7; other++) {
+            int late = limit < 3 || other < 3 ? WARM_LATE_HORIZON : WARM_LATE_STAMP;
+            OK(warm_limit(&handle, limit));
+            OK(warm_limit_history(&handle, other, SIZE_MAX));
+            MUST(warm_receive(&handle, entries, sizeof entries) ==
+                 (limit < 5 || other < 3 ? late : WARM_OK));
+        }
+    }
+    MUST(known(&handle) == 8); /* two limits of times, four of horizons */
+    OK(warm_abandon(&handle));
+}
+
 /* What is received with this limit of pages, of a history that knows two, and how many it knows
  * then. */
 static void receive_by(size_t limit, const uint8_t frame[66], int expected, size_t then) {
@@ -185,6 +203,11 @@ static void test_lists(void) {
         OK(warm_list(&handle, pages, 4, &listed));
         MUST(listed == 3 && pages[3].no == 0);
         for (size_t at = 0; at < 3; at++) MUST(pages[at].no == at + 1 && pages[at].dev == at + 7);
+        for (size_t room = 0; room < 3; room++) {
+            memset(pages, 0, sizeof pages);
+            OK(warm_list(&handle, pages, room, &listed));
+            MUST(listed == room && pages[room].no == 0 && pages[room].dev == 0);
+        }
         OK(warm_close(&handle));
         nothing_left();
     }
@@ -236,13 +259,19 @@ static void test_memory(void) {
     MUST(warm_save(&handle, -1) == WARM_DUMP_NOT_WRITTEN &&
          warm_load(&handle, -1, 1) == WARM_DUMP_NOT_READ && blocks == there);
     EACH_REFUSED(warm_step(&handle, &found, &page), true);
-    EACH_REFUSED(warm_receive(&handle, entries, sizeof entries), true);
+    EACH_REFUSED(warm_receive(&handle, entries, sizeof entries), blocks == there);
+    there++; /* what was received */
     length = 77;
-    EACH_REFUSED(warm_offer(&handle, frame, sizeof frame, &length), length == 77);
+    EACH_REFUSED(
+        warm_offer(&handle, frame, sizeof frame, &length), blocks == there && length == 77);
+    MUST(warm_offer(&handle, frame, 65, &length) == WARM_BUFFER_TOO_SMALL && length == 66);
+    MUST(blocks == there);
     memset(frame + 2, 9, 64);
-    EACH_REFUSED(warm_receive(&handle, frame, sizeof frame), true);
+    EACH_REFUSED(warm_receive(&handle, frame, sizeof frame), blocks == there);
     length = 77;
-    EACH_REFUSED(warm_next_answer(&handle, frame, sizeof frame, &length), length == 77);
+    EACH_REFUSED(
+        warm_next_answer(&handle, frame, sizeof frame, &length), blocks == there && length == 77);
+    MUST(blocks == there);
     OK(warm_abandon(&handle));
     nothing_left();
 }
@@ -277,12 +306,23 @@ static void test_loads_in_parts(void) {
     }
 }
 
-/* The only handle of one shard loads all or nothing. */
-static void test_loads_alone(void) {
-    warm handle = {0};
+/* The only handle of one shard loads all or nothing. It saves what the node has, and any handle
+ * lists that: no history is copied, for which a visit would have more allocations than one. */
+static void test_one_shard_alone(void) {
+    warm handle = {0}, other = {0};
+    warm_page page;
+    size_t listed;
     open_shards(&handle, 1);
     EACH_REFUSED(warm_load(&handle, 1, 2), have(&handle, 0, 0));
     MUST(have(&handle, FAKE_DUMPED, 2));
+    granted = 1;
+    OK(warm_save(&handle, 1));
+    granted = SIZE_MAX;
+    OK(warm_attach(&handle, &other));
+    granted = 1;
+    OK(warm_list(&other, &page, 1, &listed));
+    granted = SIZE_MAX;
+    OK(warm_close(&other));
     OK(warm_close(&handle));
     nothing_left();
 }
@@ -693,13 +733,14 @@ int main(void) {
     test_small_batches();
     test_great_batches();
     test_limits_of_horizons();
+    test_limits_of_stamps();
     test_limits_of_pages();
     test_words();
     test_lists();
     test_sending();
     test_memory();
     test_loads_in_parts();
-    test_loads_alone();
+    test_one_shard_alone();
     test_receives_in_parts();
     test_steps_in_one_shard();
     test_answers();
