@@ -2,7 +2,8 @@
 ghost use Rattle.std.specs.Prelude.{◌≡◌, ◌≢◌, ℕ, ◌<◌, ◌≤◌, ◌^◌, [], IfOk, IfSome, IsTrue, length};
 ghost use Rattle.std.specs.Prelude.{slice_index, slice_index_or, sum, take};
 ghost use Rattle.std.specs.List.{AllByRecursion};
-ghost use Rattle.warm_visits.specs.Parts.{AreShardParts, AreSizes, AreStarts, IsFirstSome, start_of};
+ghost use Rattle.warm_visits.specs.Parts.{AreShardParts, AreSizes, AreStarts, IsFirstSome};
+ghost use Rattle.warm_visits.specs.Parts.{start_of};
 ghost use Rattle.warm_visits.specs.ShardNumbers.{IsShardCount, shard_of};
 
 use crate::shard_numbers::shard_of;
