@@ -1,6 +1,8 @@
 pub mod Lists
 pub mod PartLemmas
 pub mod PartListLemmas
+pub mod PartSorts
+pub mod PartCuts
 pub mod GivenLemmas
 pub mod PartEntryLemmas
 pub mod ErrandLemmas

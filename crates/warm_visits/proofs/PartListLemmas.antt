@@ -1,51 +1,13 @@
--- The parts of a list of items, one item after the other.
-use Rattle.std.proofs.Common.{◌≡◌, ◌≢◌, inl, inr, ℕ, ◌<◌, Bool, true, false, List, [], ◌∷◌, ◌++◌, set, get_or, refl, sym, ap, ◌∙◌, arith}
+-- What is of one shard among items that name pages.
+use Rattle.std.proofs.Common.{◌≡◌, ◌≢◌, ℕ, Bool, true, false, List, [], ◌∷◌, refl, sym, ap, ◌∙◌}
 use Rattle.std.specs.Prelude.{nat_eq}
 use Rattle.std.specs.List.{AllByRecursion}
-use Rattle.std.specs.Global.{Vec}
-use Rattle.std.proofs.lemmas.Bool.{cases_eq, eq-eqb, eqb-true, ne_eqb}
-use Rattle.std.proofs.lemmas.List.{append-nil, get_or-set_other, get_or-set_same, length-set}
-use Rattle.std.proofs.lemmas.List.Elements.{filter-append}
+use Rattle.std.proofs.lemmas.Bool.{eq-eqb, eqb-true, ne_eqb}
 use Rattle.warm_stamps.specs.declared.PageId.{PageId}
-use Rattle.warm_visits.specs.Parts.{AreShardParts, own_items}
+use Rattle.warm_visits.specs.Parts.{own_items}
 use Rattle.warm_visits.specs.ShardNumbers.{shard_of}
 
 module _ {A : Type 0} (page : A → PageId) where
-  -- one item more, in its shard's part
-  gains : (count i : ℕ) (xs : List A) (x : A) → shard_of count (page x) ≡ i
-      → own_items page count i (xs ++ x ∷ []) ≡ own_items page count i xs ++ x ∷ []
-  gains count i xs x is =
-      let one : own_items page count i (x ∷ []) ≡ x ∷ [] = rw (eq-eqb (shard_of count (page x)) i is) refl in
-      filter-append (λ (y : A). nat_eq (shard_of count (page y)) i) xs (x ∷ []) ∙ ap (λ ys. own_items page count i xs ++ ys) one
-
-  -- the parts of the other shards stay
-  stays : (count i : ℕ) (xs : List A) (x : A) → shard_of count (page x) ≢ i
-      → own_items page count i (xs ++ x ∷ []) ≡ own_items page count i xs
-  stays count i xs x other =
-      let none : own_items page count i (x ∷ []) ≡ [] = rw (ne_eqb (shard_of count (page x)) i other) refl in
-      filter-append (λ (y : A). nat_eq (shard_of count (page y)) i) xs (x ∷ []) ∙ ap (λ ys. own_items page count i xs ++ ys) none ∙ append-nil (own_items page count i xs)
-
-  pub parts_more : (count k : ℕ) (xs : List A) (x : A) (parts : List (Vec A)) (n v : Vec A)
-      → AreShardParts page count xs parts → k ≡ shard_of count (page x) → k < count
-      → n ≡ get_or parts k n → v.items ≡ n.items ++ x ∷ []
-      → AreShardParts page count (xs ++ x ∷ []) (set parts k v)
-  parts_more count k xs x parts n v are is lt at more = record {
-    size = length-set parts k v ∙ are.size;
-    part = λ i d less. elim (cases_eq k i) [
-      | inl same ↦
-          ap (λ (j : ℕ). (get_or (set parts k v) j d).items) (sym same)
-          ∙ ap (λ (y : Vec A). y.items) (get_or-set_same parts k v d (omega (arith, are.size, lt)))
-          ∙ more
-          ∙ ap (λ ys. ys ++ x ∷ []) (ap (λ (y : Vec A). y.items) at ∙ are.part k n lt)
-          ∙ sym (gains count k xs x (sym is))
-          ∙ ap (λ (j : ℕ). own_items page count j (xs ++ x ∷ [])) same
-      | inr other ↦
-          ap (λ (y : Vec A). y.items) (get_or-set_other parts k i v d (λ e. other (sym e)))
-          ∙ are.part i d less
-          ∙ sym (stays count i xs x (λ e. other (is ∙ e)))
-    ];
-  }
-
   -- a part has pages of its shard alone
   pub part_is_own : (count i : ℕ) (xs : List A)
       → AllByRecursion (λ x. shard_of count (page x) ≡ i) (own_items page count i xs)

@@ -1,22 +1,19 @@
 -- The errands of a visit, from one shard on.
-use Rattle.std.proofs.Common.{◌≡◌, ◌≢◌, inl, inr, ℕ, zero, suc, ◌+◌, ◌-◌, ◌<◌, ◌≤◌, false, List, [], ◌∷◌, ◌++◌, length, map, get_or, refl, sym, ap, ◌∙◌, arith}
-use Rattle.std.proofs.lemmas.Bool.{cases_eq}
+use Rattle.std.proofs.Common.{◌≡◌, ◌≢◌, ℕ, zero, suc, ◌+◌, ◌-◌, ◌<◌, ◌≤◌, false, List, [], ◌∷◌, ◌++◌, length, map, get_or, refl, sym, ap, ◌∙◌, arith}
 use Rattle.std.specs.Prelude.{None}
-use Rattle.std.specs.Global.{Vec}
 use Rattle.std.specs.List.{flat_map, range_with_len}
-use Rattle.warm_stamps.specs.declared.PageId.{PageId}
 use Rattle.warm_stamps.specs.declared.Reference.{Reference}
 use Rattle.warm_history.specs.Entry.{Entry}
 use Rattle.warm_history.specs.ReferenceSets.{ReferenceSet, set_of_list}
 use Rattle.warm_history.specs.Histories.{history_of_entries_at, references_of}
 use Rattle.warm_visits.specs.Given.{at_horizon}
-use Rattle.warm_visits.specs.Parts.{AreShardParts, own_items}
+use Rattle.warm_visits.specs.Parts.{AreShardParts, IsFirstSome}
 use Rattle.warm_visits.specs.ShardNumbers.{of_shard}
 use Rattle.warm_visits.specs.declared.giving.Parts.{Parts}
 use Rattle.warm_visits.specs.declared.giving.Parts.TheVariants.{Batch, Entries}
 use Rattle.warm_visits.specs.declared.visit.Work.TheVariants.{Give}
 use Rattle.warm_visits.specs.Plans.{give_from, raise_from, later_shards}
-use Rattle.warm_visits.specs.VisitParts.{IsFirstPart, IsFirstSome, nth_list, part_at, parts_count, visit_of}
+use Rattle.warm_visits.specs.VisitParts.{IsFirstPart, part_at, parts_count, visit_of}
 use Rattle.warm_visits.specs.Visits.{Errand, absorb_visit, at_shard, begun, ends, give_part, give_plan, give_visit, giving, nothing, part_errand, raise_plan}
 use Rattle.warm_visits.proofs.PartEntryLemmas.{batch_refs, held_none, held_some, part_refs}
 
@@ -88,32 +85,8 @@ give_skip count from first parts long is =
 
 -- ---- parts
 
--- a list, as the code reads it
-pub nth_read : {A : Type 0} (lists : List (Vec A)) (k : ℕ) (v d : Vec A) → k < length lists
-    → v ≡ get_or lists k d → nth_list lists k ≡ v.items
-nth_read [] k v d lt is = absurd (omega arith)
-nth_read {A} (x ∷ xs) zero v d lt is = ap (λ (p : Vec A). p.items) (sym is)
-nth_read (x ∷ xs) (suc k) v d lt is = nth_read xs k v d (omega arith) is
-
-pub passed_more : {A : Type 0} (lists : List (Vec A)) (start shard : ℕ) (v : Vec A)
-    → shard < length lists → v ≡ get_or lists shard v → v.items ≡ []
-    → ((i : ℕ) → start ≤ i → i < shard → nth_list lists i ≡ []) → (i : ℕ) → start ≤ i
-    → i < shard + 1 → nth_list lists i ≡ []
-passed_more lists start shard v lt is none passed i le less = elim (cases_eq i shard) [
-  | inl same ↦ ap (nth_list lists) same ∙ nth_read lists shard v v lt is ∙ none
-  | inr other ↦ passed i le (omega (arith, less, other))
-]
-
--- a list of each shard's items, as they are defined
-own_list : {A : Type 0} (page : A → PageId) (count : ℕ) (xs : List A) (lists : List (Vec A))
-    → AreShardParts page count xs lists → (i : ℕ) → i < count
-    → nth_list lists i ≡ own_items page count i xs
-own_list page count xs [] are i lt = absurd (omega (arith, are.size))
-own_list page count xs (v ∷ vs) are i lt =
-    nth_read (v ∷ vs) i (get_or (v ∷ vs) i v) v (omega (arith, are.size, lt)) refl ∙ are.part i v lt
-
-pub first_of_batch : (parts : Vec (Vec Reference)) (start first : ℕ)
-    → IsFirstSome parts.items start first → IsFirstPart (Batch parts) start first
+pub first_of_batch : (parts : List (List Reference)) (start first : ℕ)
+    → IsFirstSome parts start first → IsFirstPart (Batch parts) start first
 first_of_batch parts start first is =
     record { from = is.from; below = is.below; passed = is.passed; there = is.there }
 
@@ -121,13 +94,13 @@ no_length : (es : List Entry) → (es ≡ [] → ⊥) → length es ≡ 0 → �
 no_length [] some none = some refl
 no_length (e ∷ es) some none = absurd (omega (arith, none))
 
-pub first_of_entries : (horizon : ℕ) (parts : Vec (Vec Entry)) (start first : ℕ)
-    → IsFirstSome parts.items start first → IsFirstPart (Entries horizon parts) start first
+pub first_of_entries : (horizon : ℕ) (parts : List (List Entry)) (start first : ℕ)
+    → IsFirstSome parts start first → IsFirstPart (Entries horizon parts) start first
 first_of_entries horizon parts start first is = record {
   from = is.from;
   below = is.below;
-  passed = λ i le lt. held_none (nth_list parts.items i) (ap length (is.passed i le lt));
-  there = λ lt. held_some (nth_list parts.items first) (no_length (nth_list parts.items first) (is.there lt));
+  passed = λ i le lt. held_none (get_or parts i []) (ap length (is.passed i le lt));
+  there = λ lt. held_some (get_or parts first []) (no_length (get_or parts first []) (is.there lt));
 }
 
 alike : (f g : ℕ → ReferenceSet) (a n : ℕ) → ((i : ℕ) → a ≤ i → i < a + n → f i ≡ g i)
@@ -149,23 +122,23 @@ give_begun count first S parts long is each =
     ∙ ap (λ n. give_at (part_at parts) (range_with_len 0 n)) none
     ∙ alike (part_at parts) (λ i. of_shard count i S) 0 count (λ i le lt. each i (omega (arith, lt)))
 
-pub batch_part : (count : ℕ) (batch : List Reference) (parts : Vec (Vec Reference))
-    → AreShardParts (λ (r : Reference). r.page) count batch parts.items → (i : ℕ) → i < count
+pub batch_part : (count : ℕ) (batch : List Reference) (parts : List (List Reference))
+    → AreShardParts (λ (r : Reference). r.page) count batch parts → (i : ℕ) → i < count
     → part_at (Batch parts) i ≡ of_shard count i (set_of_list batch)
 batch_part count batch parts are i lt =
-    batch_refs count count i batch (nth_list parts.items i) refl (own_list (λ (r : Reference). r.page) count batch parts.items are i lt)
+    batch_refs count count i batch (get_or parts i []) refl (are.part i lt)
 
-pub entries_part : (count horizon : ℕ) (es : List Entry) (parts : Vec (Vec Entry))
-    → AreShardParts (λ (e : Entry). e.page) count es parts.items → (i : ℕ) → i < count
+pub entries_part : (count horizon : ℕ) (es : List Entry) (parts : List (List Entry))
+    → AreShardParts (λ (e : Entry). e.page) count es parts → (i : ℕ) → i < count
     → part_at (Entries horizon parts) i
     ≡ of_shard count i (references_of (history_of_entries_at horizon es))
 entries_part count horizon es parts are i lt =
-    part_refs count count i horizon es (nth_list parts.items i) refl (own_list (λ (e : Entry). e.page) count es parts.items are i lt)
+    part_refs count count i horizon es (get_or parts i []) refl (are.part i lt)
 
 -- ---- visits that begin
 
-pub absorb_begun : (id count first : ℕ) (batch : List Reference) (parts : Vec (Vec Reference))
-    → AreShardParts (λ (r : Reference). r.page) count batch parts.items
+pub absorb_begun : (id count first : ℕ) (batch : List Reference) (parts : List (List Reference))
+    → AreShardParts (λ (r : Reference). r.page) count batch parts
     → IsFirstPart (Batch parts) 0 first
     → visit_of id count 0 count first (Give (Batch parts)) None false ≡ absorb_visit id count batch
 absorb_begun id count first batch parts are is =
@@ -178,8 +151,8 @@ raise_begun count time =
     let none : count - 0 ≡ count = omega arith in
     ap (λ n. map (λ i. at_shard i (giving (at_horizon time))) (range_with_len 0 n)) none
 
-pub entries_begun : (id count horizon first : ℕ) (es : List Entry) (parts : Vec (Vec Entry))
-    → AreShardParts (λ (e : Entry). e.page) count es parts.items
+pub entries_begun : (id count horizon first : ℕ) (es : List Entry) (parts : List (List Entry))
+    → AreShardParts (λ (e : Entry). e.page) count es parts
     → IsFirstPart (Entries horizon parts) 0 first
     → visit_of id count horizon 0 first (Give (Entries horizon parts)) None false
     ≡ give_visit id count (references_of (history_of_entries_at horizon es))

@@ -1,7 +1,6 @@
 -- How a visit is held: the shard of its next errand, and what it does in each.
-use Rattle.std.specs.Prelude.{◌≡◌, ◌≢◌, ℕ, zero, suc, ◌<◌, ◌≤◌, Bool, false, List, [], ◌∷◌}
-use Rattle.std.specs.Prelude.{◌++◌, length, min, Option, Some, None}
-use Rattle.std.specs.Global.{Vec}
+use Rattle.std.specs.Prelude.{◌≡◌, ◌≢◌, ℕ, ◌<◌, ◌≤◌, Bool, false, List, [], ◌++◌, length, min}
+use Rattle.std.specs.Prelude.{slice_index_or, Option, Some, None}
 use Rattle.warm_history.specs.ReferenceSets.{ReferenceSet, set_of_list}
 use Rattle.warm_history.specs.Histories.{history_of_entries_at, references_of}
 use Rattle.warm_visits.specs.declared.giving.Parts.{Parts}
@@ -16,29 +15,16 @@ use Rattle.warm_visits.specs.Plans.{give_from, raise_from}
 
 -- Parts
 
--- the list of this number
-abbrev pub nth_list : {A : Type 0} → List (Vec A) → ℕ → List A
-nth_list [] i = []
-nth_list (xs ∷ lists) zero = xs.items
-nth_list (xs ∷ lists) (suc i) = nth_list lists i
-
 -- what is given to the shard of this number
 abbrev pub part_at : Parts → ℕ → ReferenceSet
-part_at (Batch parts) i = set_of_list (nth_list parts.items i)
+part_at (Batch parts) i = set_of_list (slice_index_or parts i [])
 part_at (Entries horizon parts) i =
-    references_of (history_of_entries_at horizon (nth_list parts.items i))
+    references_of (history_of_entries_at horizon (slice_index_or parts i []))
 
 -- how many parts there are
 abbrev pub parts_count : Parts → ℕ
-parts_count (Batch parts) = length parts.items
-parts_count (Entries horizon parts) = length parts.items
-
--- the first list from this one on that is not empty; or how many there are
-pub record IsFirstSome {A : Type 0} (lists : List (Vec A)) (start first : ℕ) : Type 0 where
-  pub from : start ≤ first
-  pub below : first ≤ length lists
-  pub passed : (i : ℕ) → start ≤ i → i < first → nth_list lists i ≡ []
-  pub there : first < length lists → nth_list lists first ≢ []
+parts_count (Batch parts) = length parts
+parts_count (Entries horizon parts) = length parts
 
 -- the first shard from this one on that has a part; or how many there are
 pub record IsFirstPart (parts : Parts) (start first : ℕ) : Type 0 where

@@ -1,35 +1,22 @@
 //! What a visit gives to each shard: the references of a batch to its pages, or the entries of
 //! these.
-ghost use Rattle.std.specs.Prelude.{◌≡◌, ◌<◌, ◌≤◌, length};
+ghost use Rattle.std.specs.Prelude.{◌<◌, ◌≤◌};
 ghost use Rattle.warm_visits.specs.Given.{GivesOne};
-ghost use Rattle.warm_visits.specs.VisitParts.{IsFirstPart, IsFirstSome, parts_count, part_at};
+ghost use Rattle.warm_visits.specs.VisitParts.{IsFirstPart, parts_count, part_at};
 
+use crate::batch_parts::PartList;
 use warm_devices::PageDevice;
 use warm_gossip::{Node, NodeFault};
 use warm_history::Entry;
 use warm_stamps::Reference;
 
-// A list for each shard.
+// A part for each shard.
 #[derive(Drop)]
 pub(crate) enum Parts {
     // Of a batch.
-    Batch(Vec<Vec<Reference>>),
+    Batch(PartList<Reference>),
     // Of entries at a horizon.
-    Entries(u64, Vec<Vec<Entry>>),
-}
-
-// The number of the first list from this one on that is not empty, or how many there are.
-fn first_some<T>(parts: &Vec<Vec<T>>, from: usize) -> usize
-    requires { from ≤ length parts.now.items }
-    ensures { IsFirstSome parts.now.items from result }
-{
-    let count = parts.len();
-    for shard in from..count {
-        if !parts[shard].is_empty() {
-            return shard;
-        }
-    }
-    count
+    Entries(u64, PartList<Entry>),
 }
 
 impl Parts {
@@ -39,8 +26,8 @@ impl Parts {
         ensures { IsFirstPart self.now from result }
     {
         match self {
-            Parts::Batch(parts) => first_some(parts, from),
-            Parts::Entries(_, parts) => first_some(parts, from),
+            Parts::Batch(parts) => parts.first_some(from),
+            Parts::Entries(_, parts) => parts.first_some(from),
         }
     }
 
@@ -54,10 +41,8 @@ impl Parts {
         ensures { GivesOne (part_at self.now shard) node.old result node.new }
     {
         match self {
-            Parts::Batch(parts) => node.absorb(parts[shard].as_slice()),
-            Parts::Entries(horizon, parts) => {
-                node.join_entries(*horizon, parts[shard].as_slice())
-            }
+            Parts::Batch(parts) => node.absorb(parts.part(shard)),
+            Parts::Entries(horizon, parts) => node.join_entries(*horizon, parts.part(shard)),
         }
     }
 }

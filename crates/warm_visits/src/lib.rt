@@ -23,7 +23,7 @@ mod stage;
 mod visit;
 mod visit_messages;
 
-pub use batch_parts::{only_shard, parts_of};
+pub use batch_parts::{PartList, only_shard, parts_of};
 pub use digests::fill_digests;
 pub use shard_numbers::{is_shard_count, shard_of};
 pub use stage::Stage;

@@ -70,7 +70,7 @@ fn divide(met: &mut Met, alloc: Global, count: usize) -> Result<(), Ended> {
             parts_of(alloc, &batch, count)?
         }
     };
-    let is_divided = parts.len() == 2 && parts[0].len() == 3 && parts[1].len() == 3;
+    let is_divided = parts.count() == 2 && parts.part(0).len() == 3 && parts.part(1).len() == 3;
     met.holds(is_divided, "each shard has its part")
 }
 
