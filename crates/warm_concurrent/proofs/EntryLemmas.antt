@@ -1,8 +1,7 @@
 -- One entry of a visit by a turn: what the answer of the shard says of it.
 use Rattle.std.proofs.Common.{◌≡◌, ℕ, ◌<◌, Bool, true, false, List, [], ◌∷◌, ◌++◌, length, Ok, Err, refl, sym, ap, subst, ◌∙◌}
 use Rattle.std.specs.Prelude.{Some, None}
-use Rattle.warm_machine.specs.declared.operation.Operation.{Operation}
-use Rattle.warm_machine.specs.Runs.{Runs, operation}
+use Rattle.warm_machine.specs.Runs.{operation}
 use Rattle.warm_frames.specs.declared.message.Message.{Message}
 use Rattle.warm_frames.specs.declared.message.Message.TheVariants.{Digest, Entries, Want}
 use Rattle.warm_gossip.specs.declared.fault.NodeFault.{NodeFault}
@@ -11,6 +10,7 @@ use Rattle.warm_gossip.specs.State.{NodeState}
 use Rattle.warm_visits.specs.ShardNumbers.{IsShardCount}
 use Rattle.warm_visits.specs.Laws.{AreOwnErrands, EntersAny}
 use Rattle.warm_visits.specs.Visits.{After, Ask, ComparesOffers, Errand, HasEntered, Made, Said, Takes, VisitState, compares, copied, copying, gathered, given, giving, offered, offering, receive_visit, refused, result_of, sending, sent, shard_next}
+use Rattle.warm_visits.proofs.RunLemmas.{runs_more}
 use Rattle.warm_visits.proofs.VisitErrands.{errands_are_own}
 use Rattle.warm_shards.proofs.VisitLemmas.{named}
 use Rattle.warm_shard_machine.specs.Entering.{IsNextAt, IsOnward}
@@ -142,12 +142,6 @@ still_visits total v w old new valid of runs =
       own = subst (λ n. AreOwnErrands n w.plan) count (errands_are_own.stays v w runs.errand runs.said (subst IsShardCount (sym of.count) valid) own runs.enters.1);
       well = runs.well;
     }
-
-runs_more : {X C R : Type 0} (goes : X → C → R → X → Type 0) (x y z : X)
-    (es : List (Operation C R)) (e : Operation C R) → Runs goes x es y → goes y e.call e.reply z
-    → Runs goes x (es ++ e ∷ []) z
-runs_more goes x y z [] e runs next = (z, subst (λ w. goes w e.call e.reply z) (sym runs) next, refl)
-runs_more goes x y z (o ∷ os) e (mid, first, runs) next = (mid, first, runs_more goes mid y z os e runs next)
 
 -- with one entry more
 pub goes_more : (v u w : VisitState) (old mid new : List ShardPass) → GoesByTurns v old u mid

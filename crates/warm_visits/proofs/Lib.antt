@@ -1,4 +1,5 @@
 pub mod Lists
+pub mod RunLemmas
 pub mod PartLemmas
 pub mod PartListLemmas
 pub mod GivenLemmas
