@@ -1,5 +1,5 @@
 -- What a visit that reads gave, and what it made.
-use Rattle.std.proofs.Common.{◌≡◌, ℕ, zero, suc, ◌+◌, ◌≤◌, ◌%◌, Bool, true, false, List, [], ◌∷◌, ◌++◌, length, map, refl, sym, ap, subst, ◌∙◌, arith}
+use Rattle.std.proofs.Common.{◌≡◌, ℕ, zero, suc, ◌+◌, ◌%◌, Bool, true, false, List, [], ◌∷◌, ◌++◌, length, map, refl, sym, ap, subst, ◌∙◌}
 use Rattle.std.specs.Prelude.{None}
 use Rattle.std.specs.List.{range_with_len}
 use Rattle.warm_history.specs.ReferenceSets.{set_of_list}
@@ -8,7 +8,7 @@ use Rattle.warm_frames.specs.declared.message.Message.{Message}
 use Rattle.warm_machine.specs.declared.operation.Operation.{Operation}
 use Rattle.warm_machine.specs.Runs.{Runs}
 use Rattle.warm_peer.specs.Answers.{requested_buckets}
-use Rattle.warm_visits.specs.Laws.{AreOwnErrands, EntersAny, IsOwnAsk}
+use Rattle.warm_visits.specs.Laws.{EntersAny}
 use Rattle.warm_visits.specs.Visits.{After, Ask, ComparesOffers, Errand, GathersOffer, Made, Said, Takes, VisitState, at_each, at_shard, compares, copied, copy_of, copy_visit, copying, ends, gathered, given, giving, goes_on, joined, offer_in, offer_visit, offered, offering, onward, refused, sending, sent, with_history}
 use Rattle.warm_shard_machine.specs.Entering.{gave_ask, gave_entry, gave_first}
 use Rattle.warm_shard_machine.specs.declared.calls.ShardCall.TheVariants.{Enter}
@@ -189,16 +189,3 @@ pub offered_some : (id count : ℕ) (v w : VisitState) (old new : List ShardPass
 offered_some id count v w old new is gone none =
     let begins : IsOffering v = subst IsOffering (sym is) (record { plan = all_each offering count; made = tt; after = refl }) in
     some_offer w.id w.made (keeps_on IsOffering offers_on (visiting v old) (visiting w new) gone.goes.0 begins gone.goes.1).made none
-
--- ---- whose pages
-
-own_from : (total : ℕ) (ask : Ask) (first n : ℕ) → first + n ≤ total
-    → ((i : ℕ) → IsOwnAsk total i ask)
-    → AreOwnErrands total (map (λ i. at_shard i ask) (range_with_len first n))
-own_from total ask first zero le own = tt
-own_from total ask first (suc n) le own =
-    ((omega (arith, le), own first), own_from total ask (first + 1) n (omega (arith, le)) own)
-
-pub own_each : (total : ℕ) (ask : Ask) → ((i : ℕ) → IsOwnAsk total i ask)
-    → AreOwnErrands total (at_each total ask)
-own_each total ask own = own_from total ask 0 total (omega arith) own

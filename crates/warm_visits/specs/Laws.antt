@@ -12,9 +12,9 @@ use Rattle.warm_peer.specs.Answers.{refs_in}
 use Rattle.warm_gossip.specs.State.{NodeState}
 use Rattle.warm_visits.specs.Given.{at_horizon}
 use Rattle.warm_visits.specs.ShardNumbers.{IsShardCount, shard_of}
-use Rattle.warm_visits.specs.Visits.{Ask, Enters, Errand, Said, VisitState, absorb_visit, given}
-use Rattle.warm_visits.specs.Visits.{giving, join_visit, raise_visit, receive_visit, sending}
-use Rattle.warm_visits.specs.Visits.{answered}
+use Rattle.warm_visits.specs.Visits.{Ask, Enters, Errand, Said, VisitState, absorb_visit}
+use Rattle.warm_visits.specs.Visits.{answered, copy_visit, given, giving, join_visit}
+use Rattle.warm_visits.specs.Visits.{offer_visit, raise_visit, receive_visit, sending}
 use Rattle.warm_visits.specs.VisitMessages.{first_message, with_taken, without_message}
 
 -- The whole
@@ -72,6 +72,8 @@ pub record ErrandsAreOwn : Type 0 where
       → AreOwnErrands count (receive_visit id count message).plan
   pub joins : (id count : ℕ) (h : HistoryView) → IsShardCount count
       → AreOwnErrands count (join_visit id count h).plan
+  pub offers : (id count : ℕ) → AreOwnErrands count (offer_visit id count).plan
+  pub copies : (id count : ℕ) → AreOwnErrands count (copy_visit id count).plan
   pub stays : (v w : VisitState) (e : Errand) (said : Said) → IsShardCount v.count
       → AreOwnErrands v.count v.plan → EntersAny v e said w → AreOwnErrands w.count w.plan
 
