@@ -10,6 +10,7 @@ pub mod VisitExamples
 pub mod VisitMessageLemmas
 pub mod VisitReadsPortions
 pub mod VisitErrands
+pub mod MadeLemmas
 pub mod VisitReadsSending
 pub mod VisitPlans
 pub mod VisitEntries
