@@ -1,5 +1,6 @@
 pub mod Lists
 pub mod RunLemmas
+pub mod EmptySetLemmas
 pub mod PartLemmas
 pub mod PartListLemmas
 pub mod GivenLemmas

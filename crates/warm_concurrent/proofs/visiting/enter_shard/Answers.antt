@@ -4,7 +4,8 @@ use Rattle.warm_visits.specs.Visits.{VisitState}
 use Rattle.warm_shard_machine.specs.Entering.{IsNextAt}
 use Rattle.warm_shard_machine.specs.ShardSteps.{MayAnswer}
 use Rattle.warm_shard_machine.specs.Visits.{EntersAs}
-use Rattle.warm_concurrent.proofs.EntryLemmas.{fails, refused_by}
+use Rattle.warm_shards.proofs.VisitReceives.{stopped_if as refused_by}
+use Rattle.warm_concurrent.proofs.EntryLemmas.{fails}
 use Rattle.warm_concurrent.proofs.visiting.enter_shard.Goals as goal
 
 pub returns-in-Err-result-clause-stopped : goal.returns-in-Err-result-clause-stopped
