@@ -17,6 +17,7 @@ use Rattle.warm_visits.specs.declared.stage.Stage.TheVariants.{Raising}
 use Rattle.warm_visits.specs.Visits.{Errand, VisitState, absorb_visit, at_each, copy_visit, copying, give_plan, join_visit, next_shard, offer_visit, offering, raise_plan, receive_visit, send_plan}
 use Rattle.warm_visits.proofs.ErrandLemmas.{some_count}
 use Rattle.warm_visits.proofs.StageLemmas.{NeverRaises, never_given, never_offered, never_sent}
+use Rattle.warm_visits.proofs.VisitGiven.{sends_none as asks_sends}
 use Rattle.warm_visits.proofs.Lists.{from_filter, in_both, in_filter, in_first, in_second}
 use Rattle.warm_shard_machine.specs.declared.calls.ShardCall.{ShardCall}
 use Rattle.warm_shard_machine.specs.declared.calls.ShardCall.TheVariants.{Enter, Raise}
@@ -34,7 +35,7 @@ use Rattle.warm_concurrent.proofs.GivenLemmas.{EachGives, Gives, all_given, as_g
 use Rattle.warm_concurrent.proofs.EntryLemmas.{names_next}
 use Rattle.warm_concurrent.proofs.LawLemmas.{below}
 use Rattle.warm_concurrent.proofs.RaisedLemmas.{RisenAll, all_both, all_risen, both_parts, parts_then, raises, risen_read, risen_stage}
-use Rattle.warm_concurrent.proofs.ReadLemmas.{AsksNone, asks_each, asks_sends, reads_nothing}
+use Rattle.warm_concurrent.proofs.ReadLemmas.{AsksNone, asks_each, reads_nothing}
 use Rattle.warm_concurrent.proofs.ReferenceSetLemmas.{none_union, same_self, sum, union_none}
 use Rattle.warm_concurrent.proofs.VisitedLemmas.{PartGave, batch_given, gave_refused, part_gave}
 

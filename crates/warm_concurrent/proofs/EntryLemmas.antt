@@ -1,8 +1,7 @@
 -- One entry of a visit by a turn: what the answer of the shard says of it.
-use Rattle.std.proofs.Common.{◌≡◌, ◌≢◌, ℕ, ◌<◌, Bool, true, false, List, [], ◌∷◌, ◌++◌, length, Ok, Err, refl, sym, ap, subst, ◌∙◌}
+use Rattle.std.proofs.Common.{◌≡◌, ◌≢◌, inl, inr, ℕ, ◌<◌, Bool, true, false, List, [], ◌∷◌, ◌++◌, length, refl, sym, ap, subst, ◌∙◌}
 use Rattle.std.specs.Prelude.{Some, None}
-use Rattle.warm_machine.specs.declared.operation.Operation.{Operation}
-use Rattle.warm_machine.specs.Runs.{Runs, operation}
+use Rattle.warm_machine.specs.Runs.{operation}
 use Rattle.warm_frames.specs.declared.message.Message.{Message}
 use Rattle.warm_frames.specs.declared.message.Message.TheVariants.{Digest, Entries, Want}
 use Rattle.warm_gossip.specs.declared.fault.NodeFault.{NodeFault}
@@ -11,8 +10,10 @@ use Rattle.warm_gossip.specs.State.{NodeState}
 use Rattle.warm_visits.specs.ShardNumbers.{IsShardCount}
 use Rattle.warm_visits.specs.Stages.{next_stage}
 use Rattle.warm_visits.specs.Laws.{AreOwnErrands, EntersAny}
-use Rattle.warm_visits.specs.Visits.{After, Ask, ComparesOffers, Errand, HasEntered, Made, Said, Takes, VisitState, compares, copied, copying, gathered, given, giving, offered, offering, receive_visit, refused, result_of, sending, sent, shard_next}
+use Rattle.warm_visits.specs.Visits.{Errand, HasEntered, VisitState, receive_visit, shard_next}
+use Rattle.warm_visits.proofs.RunLemmas.{runs_more}
 use Rattle.warm_visits.proofs.VisitErrands.{errands_are_own}
+use Rattle.warm_visits.proofs.VisitGiven.{taken_gives}
 use Rattle.warm_shards.proofs.VisitLemmas.{named}
 use Rattle.warm_shard_machine.specs.Entering.{IsNextAt, IsOnward}
 use Rattle.warm_shard_machine.specs.ShardSteps.{MayAnswer}
@@ -27,43 +28,16 @@ use Rattle.warm_concurrent.specs.Visiting.{EntersByTurn, EntryFails, GoesByTurns
 
 -- ---- a visit that was refused
 
-compared_goes : (u w : VisitState) (rest : List Errand) (after : After) (made : Made)
-    → u.stopped ≡ false → ComparesOffers rest after made u w → w.stopped ≡ false
-compared_goes u w [] (compares digests) (gathered horizon table) well is = ap (λ (x : VisitState). x.stopped) is.3
-compared_goes u w rest after made well is = ap (λ (x : VisitState). x.stopped) is ∙ well
-
 pub not_both : (w : VisitState) → w.stopped ≡ false → w.stopped ≡ true → ⊥
 not_both w goes stops = let no : false ≡ true = sym goes ∙ stops in absurd (cc)
-
-takes_stop : (v w : VisitState) (i : ℕ) (ask : Ask) (rest : List Errand) (said : Said)
-    → v.stopped ≡ false → Takes v i ask rest said w → w.stopped ≡ true → w ≡ as_stopped v
-takes_stop v w i (giving S) rest refused well takes stops = takes
-takes_stop v w i offering rest refused well takes stops = takes
-takes_stop v w i (sending bucket after) rest refused well takes stops = takes
-takes_stop v w i copying rest refused well takes stops = takes
-takes_stop v w i (giving S) rest (given horizon) well takes stops =
-    absurd (not_both w (ap (λ (x : VisitState). x.stopped) takes ∙ well) stops)
-takes_stop v w i offering rest (offered horizon table) well takes stops =
-    absurd (not_both w (compared_goes _ w rest v.after takes.0 well takes.2) stops)
-takes_stop v w i (sending bucket after) rest (sent message more) well takes stops =
-    absurd (not_both w (ap (λ (x : VisitState). x.stopped) takes ∙ well) stops)
-takes_stop v w i copying rest (copied h) well takes stops =
-    absurd (not_both w (ap (λ (x : VisitState). x.stopped) takes ∙ well) stops)
-takes_stop v w i ask rest said well takes stops = absurd takes
 
 stopped_as : (v w : VisitState) (n m : NodeState) → HasEntered v n w m → w.stopped ≡ true
     → w ≡ as_stopped v
 stopped_as v w n m (e, said, enters) stops =
-    takes_stop v w e.shard e.ask enters.rest said enters.ready enters.takes stops
-
--- what the visit says of it
-pub refused_by : (b : Bool) (why : NodeFault) → Err why ≡ result_of b → (b ≡ true) × (why ≡ Memory)
-refused_by true why is = (refl, cc)
-refused_by false why is = absurd (cc)
-
-pub well_by : (b : Bool) → Ok tt ≡ result_of b → b ≡ false
-well_by true is = absurd (cc)
-well_by false is = refl
+    elim (taken_gives v w e.shard e.ask enters.rest said enters.ready enters.takes) [
+      | inl is ↦ is
+      | inr ran ↦ absurd (not_both w ran.1.0 stops)
+    ]
 
 -- a visit that names a shard is in a stage
 pub some_stage : (b : Bool) (plan : List Errand) (shard : ℕ) → shard_next b plan ≡ Some shard
@@ -156,12 +130,6 @@ still_visits total v w old new valid of runs =
       own = subst (λ n. AreOwnErrands n w.plan) count (errands_are_own.stays v w runs.errand runs.said (subst IsShardCount (sym of.count) valid) own runs.enters.1);
       well = runs.well;
     }
-
-runs_more : {X C R : Type 0} (goes : X → C → R → X → Type 0) (x y z : X)
-    (es : List (Operation C R)) (e : Operation C R) → Runs goes x es y → goes y e.call e.reply z
-    → Runs goes x (es ++ e ∷ []) z
-runs_more goes x y z [] e runs next = (z, subst (λ w. goes w e.call e.reply z) (sym runs) next, refl)
-runs_more goes x y z (o ∷ os) e (mid, first, runs) next = (mid, first, runs_more goes mid y z os e runs next)
 
 -- with one entry more
 pub goes_more : (v u w : VisitState) (old mid new : List ShardPass) → GoesByTurns v old u mid

@@ -7,7 +7,8 @@ use Rattle.warm_shard_machine.specs.declared.calls.ShardReply.{ShardReply}
 use Rattle.warm_concurrent.specs.Attached.{AreOf, AreTurns, IsPassOf, KeepsOtherPasses, Known, ShardPass, ShardTurn, known_of, no_pass, shard_pass, shard_turn}
 use Rattle.warm_concurrent.specs.Clauses.{AnsweredByShard, Spent}
 use Rattle.warm_shard_machine.specs.ShardSteps.{MayAnswer, ShardStep, IsOwn, ShardState}
-use Rattle.warm_shard_machine.proofs.ShardStepLemmas.{last_of, own_step, runs_keep}
+use Rattle.warm_visits.proofs.RunLemmas.{last_of}
+use Rattle.warm_shard_machine.proofs.ShardStepLemmas.{own_step, runs_keep}
 use Rattle.warm_shards.proofs.Places.{at_each}
 use Rattle.std.proofs.lemmas.Option.{same_Some}
 use Rattle.warm_machine.specs.declared.operation.Operation.{Operation}

@@ -11,13 +11,14 @@ use Rattle.warm_visits.specs.declared.stage.Stage.TheVariants.{Raising}
 use Rattle.warm_visits.specs.Plans.{raise_from}
 use Rattle.warm_visits.specs.Stages.{next_stage}
 use Rattle.warm_visits.specs.Visits.{Errand, Said, VisitState, give_plan, next_shard, raise_plan, shard_next}
+use Rattle.warm_visits.proofs.RunLemmas.{all_keep}
 use Rattle.warm_visits.proofs.StageLemmas.{NeverRaises, never_again, other_stage}
 use Rattle.warm_visits.proofs.VisitPlans.{raise_begun, raise_end, raise_here}
 use Rattle.warm_concurrent.specs.Attached.{ShardPass}
 use Rattle.warm_concurrent.specs.Given.{only_horizon}
 use Rattle.warm_concurrent.specs.Visiting.{EntersByTurn, GoesByTurns, Visiting, visiting}
 use Rattle.warm_concurrent.proofs.GivenLemmas.{EachGives, Gives, given_as, given_then, nothing}
-use Rattle.warm_concurrent.proofs.ReadLemmas.{AsksNone, keeps_on, reads_nothing}
+use Rattle.warm_concurrent.proofs.ReadLemmas.{AsksNone, reads_nothing}
 use Rattle.warm_concurrent.proofs.ReferenceSetLemmas.{union_none}
 use Rattle.warm_concurrent.proofs.VisitedLemmas.{EndsAt, PartGave, never_refused, part_gave, parts_given, turn_gives}
 use Rattle.warm_concurrent.proofs.WholeCallLemmas.{none_first, one_first}
@@ -125,7 +126,7 @@ pub risen_stage : (old : List ShardPass) (time : ℕ) (rest : List Errand) (stag
     → NeverRaises rest → (t : Visiting) → RisenAll old time rest t
     → next_stage t.visit.plan ≡ Some stage → stage ≢ Raising
 risen_stage old time rest stage never t r at =
-    other_stage t.visit.plan stage (keeps_on (λ (v : VisitState). NeverRaises v.plan) never_again r.mid t r.entries (subst NeverRaises (sym r.plan) never) r.runs) at
+    other_stage t.visit.plan stage (all_keep EntersByTurn (λ (s : Visiting). NeverRaises s.visit.plan) (λ x y e said none entry. never_again x.visit y.visit e said none entry.1) r.mid t r.entries (subst NeverRaises (sym r.plan) never) r.runs) at
 
 -- a visit without errands names no shard
 no_next : (w : VisitState) (k : ℕ) → w.stopped ≡ false → w.plan ≡ [] → next_shard w ≡ Some k → ⊥

@@ -33,7 +33,7 @@ use Rattle.warm_concurrent.specs.Given.{AnswersAfter, FillsFrame, SharedVictims,
 use Rattle.warm_shard_machine.specs.Laws.{Log}
 use Rattle.warm_shard_machine.specs.ShardSteps.{CallGoes, CallStep, ShardState, ShardStep, node_reply_of}
 use Rattle.warm_concurrent.proofs.ClosedShardLemmas.{run_gave}
-use Rattle.warm_shard_machine.proofs.ShardStepLemmas.{last_of}
+use Rattle.warm_visits.proofs.RunLemmas.{last_of}
 
 abbrev pages_of : NodeState → PoolView
 pages_of n = view_of n.pool

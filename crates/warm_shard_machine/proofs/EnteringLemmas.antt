@@ -1,6 +1,5 @@
 -- What an errand of a visit leaves of the node that it was run at, and what it gave.
-use Rattle.std.proofs.Common.{◌≡◌, ℕ, true, false, List, [], ◌∷◌, max, refl, sym, ap, subst, ◌∙◌, arith}
-use Rattle.std.proofs.lemmas.List.{append-nil}
+use Rattle.std.proofs.Common.{◌≡◌, ℕ, true, false, List, [], ◌∷◌, refl, sym, ap, subst, ◌∙◌}
 use Rattle.warm_history.specs.ReferenceSets.{ReferenceSet, set_of_list, ◌∪◌}
 use Rattle.warm_history.specs.Histories.{history, references_of}
 use Rattle.warm_history.proofs.JoinLemmas.{history_first}
@@ -11,6 +10,7 @@ use Rattle.warm_gossip.specs.State.{NodeState, NodeView, node_view}
 use Rattle.warm_shards.specs.Shards.{HoldsPagesOf, HoldsShard}
 use Rattle.warm_visits.specs.Laws.{AreOwnErrands, IsOwnAsk}
 use Rattle.warm_visits.specs.Visits.{Ask, Errand, HasEntered, NodeSays, Said, Takes, VisitState, copied, copying, given, giving, offered, offering, refused, sending, sent}
+use Rattle.warm_visits.proofs.EmptySetLemmas.{union_none}
 use Rattle.warm_shards.proofs.Calls.{takes_own}
 use Rattle.warm_shards.proofs.VisitLemmas.{named}
 use Rattle.warm_shard_machine.specs.Laws.{ErrandsAreCalls}
@@ -66,16 +66,11 @@ module _ (count i : ℕ) (n m : NodeState) (own : HoldsShard count i n) where
 
 -- ---- what it gave
 
-pub nothing_more : (S : ReferenceSet) → S ∪ set_of_list [] ≡ S
-nothing_more S =
-    let same : max S.horizon 0 ≡ S.horizon = omega arith in
-    λ i. record { horizon = same i; given = append-nil S.given i }
-
 module _ (S : ReferenceSet) (n m : NodeState) (stands : n.history ≡ history S) where
   -- if nothing was given, and a caller sees what it saw
   same_given : SameView n m → m.history ≡ history (S ∪ set_of_list [])
   same_given same =
-      ap (λ (v : NodeView). v.history) same ∙ stands ∙ ap history (sym (nothing_more S))
+      ap (λ (v : NodeView). v.history) same ∙ stands ∙ ap history (sym (union_none S))
 
   says_given : (v w : VisitState) (i : ℕ) (ask : Ask) (rest : List Errand) (said : Said)
       → v.stopped ≡ false → NodeSays n ask said m → Takes v i ask rest said w

@@ -12,6 +12,7 @@ use Rattle.warm_gossip.specs.declared.call.Reply.{Reply}
 use Rattle.warm_gossip.specs.declared.fault.NodeFault.{NodeFault}
 use Rattle.warm_gossip.specs.declared.fault.NodeFault.TheVariants.{Memory, Pool}
 use Rattle.warm_gossip.proofs.GivenLemmas.{told_is_history}
+use Rattle.warm_visits.proofs.RunLemmas.{runs_on}
 use Rattle.warm_shard_machine.specs.declared.calls.ShardCall.{ShardCall}
 use Rattle.warm_shard_machine.specs.declared.calls.ShardReply.{ShardReply}
 use Rattle.warm_shard_machine.specs.declared.calls.ShardReply.TheVariants.{Changed, Dirty, Done, Entered, Foreign, Looked, Page, Pinned, Portion, Refused, Replaced, WasDirty}
@@ -46,12 +47,6 @@ shard_run : (o y : ShardState) (by : ℕ) (c : ShardCall) (r : ShardReply) → S
 shard_run o y by c Foreign step =
     subst (λ (es : List (Operation Work ShardReply)). Runs NodeStep o.node es y.node) (sym (foreign_none by (asked_of c))) (ap (λ (s : ShardState). s.node) (sym step.1))
 shard_run o y by c r step = asked_run o.node y.node by (asked_of c) r step.2
-
--- one run after another
-runs_on : {X C R : Type 0} (goes : X → C → R → X → Type 0) (x y z : X) (xs ys : List (Operation C R))
-    → Runs goes x xs y → Runs goes y ys z → Runs goes x (xs ++ ys) z
-runs_on goes x y z [] ys one rest = subst (λ w. Runs goes w ys z) (sym one) rest
-runs_on goes x y z (e ∷ xs) ys one rest = (one.0, one.1, runs_on goes one.0 y z xs ys one.2 rest)
 
 pub calls_are_a_nodes : CallsAreANodes
 calls_are_a_nodes o z [] runs = ap (λ (s : ShardState). s.node) runs

@@ -1,5 +1,5 @@
 -- What the steps of a shard keep, and what they are of a call of its node.
-use Rattle.std.proofs.Common.{◌≡◌, ℕ, List, [], ◌∷◌, ◌++◌, Option, Some, None, refl, sym, ap, subst, ◌∙◌}
+use Rattle.std.proofs.Common.{◌≡◌, ℕ, List, [], ◌∷◌, Option, Some, None, refl, sym, ap, ◌∙◌}
 use Rattle.warm_pool.specs.declared.fault.PoolFault.TheVariants.{Fixed, NoDevice}
 use Rattle.warm_pool.specs.Forgetting.{ForgetRefused}
 use Rattle.warm_pool.specs.State.{PoolState}
@@ -35,15 +35,6 @@ runs_keep x z (e ∷ es) runs =
     let one = step_keeps x runs.0 e.call e.reply runs.1 in
     let rest = runs_keep runs.0 z es runs.2 in
     (rest.0 ∙ one.0, rest.1 ∙ one.1)
-
--- the last step of a run
-pub last_of : {X C R : Type 0} (goes : X → C → R → X → Type 0) (x z : X) (es : List (Operation C R))
-    (e : Operation C R) → Runs goes x (es ++ e ∷ []) z
-    → (y : X) × Runs goes x es y × goes y e.call e.reply z
-last_of goes x z [] e runs = (x, refl, subst (λ k. goes x e.call e.reply k) runs.2 runs.1)
-last_of goes x z (f ∷ fs) e runs =
-    let rest = last_of goes runs.0 z fs e runs.2 in
-    (rest.0, (runs.0, runs.1, rest.1), rest.2)
 
 -- a call of own pages is answered as a node answers it
 pub own_step : (x y : ShardState) (c : ShardCall) (r : ShardReply) → IsOwn x.count x.number c

@@ -1,13 +1,13 @@
 -- What a loop over nodes does by a visit: it goes alone.
-use Rattle.std.proofs.Common.{◌≡◌, ℕ, ◌<◌, List, [], ◌∷◌, ◌++◌, length, set, get_or, refl, sym, ap, subst, ◌∙◌}
+use Rattle.std.proofs.Common.{◌≡◌, ℕ, ◌<◌, List, [], ◌∷◌, ◌++◌, length, set, get_or, sym, ap, subst, ◌∙◌}
 use Rattle.std.specs.Prelude.{Some, false}
 use Rattle.std.proofs.lemmas.List.{get_or-set_same}
-use Rattle.warm_machine.specs.declared.operation.Operation.{Operation}
-use Rattle.warm_machine.specs.Runs.{Runs, operation}
+use Rattle.warm_machine.specs.Runs.{operation}
 use Rattle.warm_gossip.specs.State.{NodeState}
 use Rattle.warm_shards.specs.Shards.{no_shard, shard_at}
 use Rattle.warm_shards.specs.VisitLaws.{EntersAlone, GoesAlone, alone}
 use Rattle.warm_visits.specs.Visits.{Enters, Errand, Said, VisitState, next_shard, shard_next}
+use Rattle.warm_visits.proofs.RunLemmas.{runs_more}
 use Rattle.warm_shards.proofs.Calls.{read_at}
 
 -- the shard that a visit names is that of the errand that it runs
@@ -17,12 +17,6 @@ named v w shard n m e said is enters =
     let next : next_shard v ≡ Some e.shard = ap (λ b. shard_next b v.plan) enters.ready ∙ ap (shard_next false) enters.next in
     let both : Some shard ≡ Some e.shard = is ∙ next in
     cc
-
-runs_more : {X C R : Type 0} (goes : X → C → R → X → Type 0) (x y z : X)
-    (es : List (Operation C R)) (e : Operation C R) → Runs goes x es y → goes y e.call e.reply z
-    → Runs goes x (es ++ e ∷ []) z
-runs_more goes x y z [] e runs next = (z, subst (λ w. goes w e.call e.reply z) (sym runs) next, refl)
-runs_more goes x y z (o ∷ os) e (mid, first, runs) next = (mid, first, runs_more goes mid y z os e runs next)
 
 -- one entry more
 pub gone_more : (v u w : VisitState) (old ns : List NodeState) (shard : ℕ) (n m d : NodeState)

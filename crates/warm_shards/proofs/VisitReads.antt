@@ -8,8 +8,6 @@ use Rattle.warm_stamps.specs.declared.PageId.{PageId}
 use Rattle.warm_history.specs.Histories.{HistoryView, entries_of}
 use Rattle.warm_digest.specs.BucketDigests.{digests_of}
 use Rattle.warm_frames.specs.declared.message.Message.{Message}
-use Rattle.warm_machine.specs.declared.operation.Operation.{Operation}
-use Rattle.warm_machine.specs.Runs.{Runs}
 use Rattle.warm_peer.specs.Since.{HasMoreSince, sent_since}
 use Rattle.warm_gossip.specs.State.{NodeState}
 use Rattle.warm_shards.specs.Clauses.{SameShards}
@@ -56,14 +54,6 @@ same_read old ns xs i lt same is read =
     subst (SameShards old) (sym is) (same_one old ns i (shard_at xs i) lt same read.0 read.1)
 
 -- ---- entry by entry
-
--- what each entry keeps, all keep
-pub all_keep : {X C R : Type 0} (goes : X → C → R → X → Type 0) (P : X → Type 0)
-    → ((x y : X) (c : C) (r : R) → P x → goes x c r y → P y) → (x z : X)
-    → (es : List (Operation C R)) → P x → Runs goes x es z → P z
-all_keep goes P step x z [] here runs = subst P runs here
-all_keep goes P step x z (e ∷ es) here (y, first, runs) =
-    all_keep goes P step y z es (step x y e.call e.reply here first) runs
 
 -- a visit with these errands, which has made this
 abbrev pub visit_at : ℕ → ℕ → List Errand → Made → After → Bool → VisitState

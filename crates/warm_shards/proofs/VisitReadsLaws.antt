@@ -21,8 +21,9 @@ use Rattle.warm_shards.proofs.AreShardsLemmas.{some_shards}
 use Rattle.warm_shards.proofs.Calls.{keep_then, same_ids, same_keeps, same_none, same_shards, same_whole}
 use Rattle.warm_shards.proofs.GivenLemmas.{given_id, raised_alone}
 use Rattle.warm_shards.proofs.Receiving.{digests_received, request_received}
+use Rattle.warm_visits.proofs.RunLemmas.{all_keep}
 use Rattle.warm_visits.specs.Plans.{from_shard}
-use Rattle.warm_shards.proofs.VisitReads.{all_keep, all_there, from_first, visit_at}
+use Rattle.warm_shards.proofs.VisitReads.{all_there, from_first, visit_at}
 use Rattle.warm_shards.proofs.VisitReadsCopies.{Copies, all_copied, copies_on}
 use Rattle.warm_shards.proofs.VisitReadsDigests.{Comparing, answer_made, compares_on, same_compared}
 use Rattle.warm_shards.proofs.VisitReadsOffers.{Offered, Offers, all_offered, goes_next, nothing_compared, offers_first, offers_one}

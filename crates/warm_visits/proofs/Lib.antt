@@ -1,4 +1,6 @@
 pub mod Lists
+pub mod RunLemmas
+pub mod EmptySetLemmas
 pub mod PartLemmas
 pub mod PartListLemmas
 pub mod PartSorts
@@ -12,6 +14,7 @@ pub mod VisitExamples
 pub mod VisitMessageLemmas
 pub mod VisitReadsPortions
 pub mod VisitErrands
+pub mod MadeLemmas
 pub mod VisitReadsSending
 pub mod VisitPlans
 pub mod VisitEntries

@@ -18,6 +18,7 @@ use Rattle.warm_visits.specs.ShardNumbers.{of_first_shards, of_shard}
 use Rattle.warm_visits.specs.Laws.{EntersAny, GivesAll, WholeIsGiven, gave_all, gave_errand}
 use Rattle.warm_visits.specs.Plans.{give_from}
 use Rattle.warm_visits.specs.Visits.{After, Ask, ComparesOffers, Errand, Made, Said, Takes, VisitState, at_each, at_shard, compares, copied, copying, gathered, give_plan, given, giving, goes_on, offered, offering, raise_plan, receive_visit, refused, send_plan, sending, sent, each_shard}
+use Rattle.warm_visits.proofs.EmptySetLemmas.{none_apart, none_union, union_none}
 use Rattle.warm_visits.proofs.ErrandLemmas.{some_count}
 use Rattle.warm_visits.proofs.PartLemmas.{all_parts, next_part, no_part}
 use Rattle.warm_visits.proofs.VisitPlans.{give_end, give_here, give_past}
@@ -25,41 +26,34 @@ use Rattle.warm_visits.proofs.PlanGiven.{empty_or_not, give_all}
 
 -- ---- what a plan gives
 
-abbrev asked : Ask → ReferenceSet
+abbrev pub asked : Ask → ReferenceSet
 asked (giving S) = S
 asked ask = set_of_list []
 
 -- what its errands give together
-abbrev plan_gives : List Errand → ReferenceSet
+abbrev pub plan_gives : List Errand → ReferenceSet
 plan_gives [] = set_of_list []
 plan_gives (e ∷ es) = asked e.ask ∪ plan_gives es
 
-nothing_first : (S : ReferenceSet) → set_of_list [] ∪ S ≡ S
-nothing_first S = let same : max 0 S.horizon ≡ S.horizon = omega arith in λ i. record { horizon = same i; given = S.given }
-
-nothing_more : (S : ReferenceSet) → S ∪ set_of_list [] ≡ S
-nothing_more S =
-    let same : max S.horizon 0 ≡ S.horizon = omega arith in
-    λ i. record { horizon = same i; given = append-nil S.given i }
-
 gives_both : (es fs : List Errand) → plan_gives (es ++ fs) ≡ plan_gives es ∪ plan_gives fs
-gives_both [] fs = sym (nothing_first (plan_gives fs))
+gives_both [] fs = sym (none_union (plan_gives fs))
 gives_both (e ∷ es) fs =
     ap (λ S. asked e.ask ∪ S) (gives_both es fs) ∙ sym (both_assoc (asked e.ask) (plan_gives es) (plan_gives fs))
 
-sends_none : (count : ℕ) (bs : List ℕ)
+pub sends_none : (count : ℕ) (bs : List ℕ)
     → plan_gives (map (λ b. at_shard (b % count) (sending b None)) bs) ≡ set_of_list []
 sends_none count [] = refl
 sends_none count (b ∷ bs) = ap (λ S. set_of_list [] ∪ S) (sends_none count bs)
 
-offers_none : (is : List ℕ) → plan_gives (map (λ i. at_shard i offering) is) ≡ set_of_list []
-offers_none [] = refl
-offers_none (i ∷ is) = ap (λ S. set_of_list [] ∪ S) (offers_none is)
+pub each_none : (ask : Ask) → asked ask ≡ set_of_list [] → (is : List ℕ)
+    → plan_gives (map (λ i. at_shard i ask) is) ≡ set_of_list []
+each_none ask none [] = refl
+each_none ask none (i ∷ is) = let rest = each_none ask none is in λ k. none k ∪ rest k
 
 -- the same horizon, given to each shard
 risen_from : (time first n : ℕ)
     → plan_gives (map (λ i. at_shard i (giving (at_horizon time))) (range_with_len first (suc n))) ≡ at_horizon time
-risen_from time first zero = nothing_more (at_horizon time)
+risen_from time first zero = union_none (at_horizon time)
 risen_from time first (suc n) =
     let same : max time time ≡ time = omega arith in
     ap (λ S. at_horizon time ∪ S) (risen_from time (first + 1) n) ∙ ap at_horizon same
@@ -70,33 +64,53 @@ risen_plan (suc n) time some = risen_from time 0 n
 
 -- ---- entries
 
--- what an entry gave, and what the visit gives then, is what its plan gave
+-- the visit goes on, and these errands are left to give, or others that give as much
+abbrev LeavesToGive : List Errand → VisitState → Type 0
+LeavesToGive rest w = (w.stopped ≡ false) × (plan_gives w.plan ≡ plan_gives rest)
+
+leaves : (w u : VisitState) → w ≡ u → u.stopped ≡ false → LeavesToGive u.plan w
+leaves w u is going =
+    (ap (λ (x : VisitState). x.stopped) is ∙ going, ap (λ (x : VisitState). plan_gives x.plan) is)
+
 compared_gives : (v w : VisitState) (rest : List Errand) (after : After) (made : Made)
-    → v.plan ≡ rest → ComparesOffers rest after made v w → plan_gives w.plan ≡ plan_gives rest
-compared_gives v w [] (compares digests) (gathered horizon table) plan is =
-    ap (λ (x : VisitState). plan_gives x.plan) is.3 ∙ sends_none v.count (requested_buckets is.0)
-compared_gives v w rest after made plan is =
-    ap (λ (x : VisitState). plan_gives x.plan) is ∙ ap plan_gives plan
+    → v.stopped ≡ false → v.plan ≡ rest → ComparesOffers rest after made v w → LeavesToGive rest w
+compared_gives v w [] (compares digests) (gathered horizon table) going plan is =
+    let left = leaves w _ is.3 refl in
+    (left.0, left.1 ∙ sends_none v.count (requested_buckets is.0))
+compared_gives v w rest after made going plan is =
+    let left = leaves w v is going in (left.0, left.1 ∙ ap plan_gives plan)
 
 goes_on_none : (i bucket : ℕ) (message : Message) (more : Bool) (rest : List Errand)
     → plan_gives (goes_on i bucket message more ++ rest) ≡ plan_gives rest
-goes_on_none i bucket message true rest = nothing_first (plan_gives rest)
+goes_on_none i bucket message true rest = none_union (plan_gives rest)
 goes_on_none i bucket message false rest = refl
 
--- the entry was refused, or gave what was asked
-taken_gives : (v w : VisitState) (i : ℕ) (ask : Ask) (rest : List Errand) (said : Said)
-    → Takes v i ask rest said w → (w ≡ record v { stopped = true })
-    ⊎ (gave_errand ask said ∪ plan_gives w.plan ≡ asked ask ∪ plan_gives rest)
-taken_gives v w i (giving S) rest (given horizon) is = inr (ap (λ (x : VisitState). S ∪ plan_gives x.plan) is)
-taken_gives v w i offering rest (offered horizon table) is = inr (ap (λ S. set_of_list [] ∪ S) (compared_gives _ w rest v.after is.0 refl is.2))
-taken_gives v w i (sending bucket after) rest (sent message more) is =
-    inr (ap (λ (x : VisitState). set_of_list [] ∪ plan_gives x.plan) is ∙ ap (λ S. set_of_list [] ∪ S) (goes_on_none i bucket message more rest))
-taken_gives v w i copying rest (copied h) is = inr (ap (λ (x : VisitState). set_of_list [] ∪ plan_gives x.plan) is)
-taken_gives v w i (giving S) rest refused is = inl is
-taken_gives v w i offering rest refused is = inl is
-taken_gives v w i (sending bucket after) rest refused is = inl is
-taken_gives v w i copying rest refused is = inl is
-taken_gives v w i ask rest said is = absurd is
+-- the errand was refused; or it gave what was asked, and the visit goes on
+pub taken_gives : (v w : VisitState) (i : ℕ) (ask : Ask) (rest : List Errand) (said : Said)
+    → v.stopped ≡ false → Takes v i ask rest said w → (w ≡ record v { stopped = true })
+    ⊎ ((gave_errand ask said ≡ asked ask) × LeavesToGive rest w)
+taken_gives v w i (giving S) rest (given horizon) going is = inr (refl, leaves w _ is going)
+taken_gives v w i offering rest (offered horizon table) going is = inr (refl, compared_gives _ w rest v.after is.0 going refl is.2)
+taken_gives v w i (sending bucket after) rest (sent message more) going is =
+    let left = leaves w _ is going in inr (refl, (left.0, left.1 ∙ goes_on_none i bucket message more rest))
+taken_gives v w i copying rest (copied h) going is = inr (refl, leaves w _ is going)
+taken_gives v w i (giving S) rest refused going is = inl is
+taken_gives v w i offering rest refused going is = inl is
+taken_gives v w i (sending bucket after) rest refused going is = inl is
+taken_gives v w i copying rest refused going is = inl is
+taken_gives v w i ask rest said going is = absurd is
+
+-- if the errands give nothing, neither does the next one, nor do those that follow it
+pub none_follows : (v w : VisitState) (e : Errand) (said : Said) → plan_gives v.plan ≡ set_of_list []
+    → EntersAny v e said w → (asked e.ask ≡ set_of_list []) × (plan_gives w.plan ≡ set_of_list [])
+none_follows v w e said none (old, new, enters) =
+    let apart = none_apart (asked e.ask) (plan_gives enters.rest) (ap plan_gives (sym enters.next) ∙ none) in (
+      apart.0,
+      elim (taken_gives v w e.shard e.ask enters.rest said enters.ready enters.takes) [
+        | inl is ↦ ap (λ (x : VisitState). plan_gives x.plan) is ∙ none
+        | inr ran ↦ ran.1.1 ∙ apart.1
+      ],
+    )
 
 -- a visit that was refused is not over
 stopped_stays : (v w : VisitState) (e : Errand) (rest : List Errand)
@@ -112,9 +126,11 @@ pub over_gave : (v w : VisitState) (es : List (Operation Errand Said)) → Runs 
     → w.plan ≡ [] → gave_all es ≡ plan_gives v.plan
 over_gave v w [] runs over = ap plan_gives (sym over) ∙ ap (λ (x : VisitState). plan_gives x.plan) (sym runs)
 over_gave v w (o ∷ os) (y, (old, new, enters), runs) over =
-    elim (taken_gives v y o.call.shard o.call.ask enters.rest o.reply enters.takes) [
+    elim (taken_gives v y o.call.shard o.call.ask enters.rest o.reply enters.ready enters.takes) [
       | inl is ↦ absurd (stopped_stays y w o.call enters.rest os (ap (λ (x : VisitState). x.stopped) is) (ap (λ (x : VisitState). x.plan) is ∙ enters.next) runs over)
-      | inr is ↦ ap (λ S. gave_errand o.call.ask o.reply ∪ S) (over_gave y w os runs over) ∙ is ∙ ap plan_gives (sym enters.next)
+      | inr ran ↦
+          let rest = over_gave y w os runs over ∙ ran.1.1 in
+          (λ k. ran.0 k ∪ rest k) ∙ ap plan_gives (sym enters.next)
     ]
 
 -- ---- the parts together
@@ -142,7 +158,7 @@ parts_from zero count k R S is =
     let A = first_of count S k in
     let all : k ≡ count = omega (arith, is) in
     ap (λ es. history ((R ∪ A) ∪ plan_gives es)) (give_end count (λ i. of_shard count i S) k (omega (arith, is)))
-    ∙ ap history (nothing_more (R ∪ A)) ∙ ap (λ j. history (R ∪ first_of count S j)) all
+    ∙ ap history (union_none (R ∪ A)) ∙ ap (λ j. history (R ∪ first_of count S j)) all
 parts_from (suc n) count k R S is =
     let A = first_of count S k in
     let B = of_shard count k S in
@@ -189,14 +205,14 @@ both_give count R S some =
 batch_gives : (count : ℕ) (R : ReferenceSet) (batch : List Reference) → 0 < count
     → history (R ∪ plan_gives (give_plan count (set_of_list batch))) ≡ history (R ∪ set_of_list batch)
 batch_gives count R batch some =
-    ap (λ T. history (T ∪ plan_gives (give_plan count (set_of_list batch)))) (sym (nothing_more R)) ∙ parts_give count R (set_of_list batch) some
+    ap (λ T. history (T ∪ plan_gives (give_plan count (set_of_list batch)))) (sym (union_none R)) ∙ parts_give count R (set_of_list batch) some
 
 -- raised, and then read
 reads_give : (count time : ℕ) (rest : List Errand) → 0 < count → plan_gives rest ≡ set_of_list []
     → plan_gives (raise_plan count time ++ rest) ≡ at_horizon time
 reads_give count time rest some none =
     gives_both (raise_plan count time) rest
-    ∙ (λ i. risen_plan count time some i ∪ none i) ∙ nothing_more (at_horizon time)
+    ∙ (λ i. risen_plan count time some i ∪ none i) ∙ union_none (at_horizon time)
 
 pub whole_is_given : WholeIsGiven
 whole_is_given = record {
@@ -212,4 +228,4 @@ whole_is_given = record {
     received id (Want sender horizon request) =
         gives_of _ (at_horizon horizon) (λ count some R. ap (λ T. history (R ∪ T)) (reads_give count horizon (send_plan count request) some (sends_none count (requested_buckets request))))
     received id (Digest sender horizon digests) =
-        gives_of _ (at_horizon horizon) (λ count some R. ap (λ T. history (R ∪ T)) (reads_give count horizon (at_each count offering) some (offers_none (each_shard count))))
+        gives_of _ (at_horizon horizon) (λ count some R. ap (λ T. history (R ∪ T)) (reads_give count horizon (at_each count offering) some (each_none offering refl (each_shard count))))

@@ -12,9 +12,9 @@ use Rattle.warm_peer.specs.Answers.{refs_in}
 use Rattle.warm_gossip.specs.State.{NodeState}
 use Rattle.warm_visits.specs.Given.{at_horizon}
 use Rattle.warm_visits.specs.ShardNumbers.{IsShardCount, shard_of}
-use Rattle.warm_visits.specs.Visits.{Ask, Enters, Errand, Said, VisitState, absorb_visit, given}
-use Rattle.warm_visits.specs.Visits.{giving, join_visit, raise_visit, receive_visit, sending}
-use Rattle.warm_visits.specs.Visits.{answered}
+use Rattle.warm_visits.specs.Visits.{Ask, Enters, Errand, Made, Said, VisitState, absorb_visit}
+use Rattle.warm_visits.specs.Visits.{answered, copy_visit, gathered, given, giving, join_visit}
+use Rattle.warm_visits.specs.Visits.{joined, offer_visit, raise_visit, receive_visit, sending}
 use Rattle.warm_visits.specs.VisitMessages.{first_message, with_taken, without_message}
 
 -- The whole
@@ -72,8 +72,31 @@ pub record ErrandsAreOwn : Type 0 where
       → AreOwnErrands count (receive_visit id count message).plan
   pub joins : (id count : ℕ) (h : HistoryView) → IsShardCount count
       → AreOwnErrands count (join_visit id count h).plan
+  pub offers : (id count : ℕ) → AreOwnErrands count (offer_visit id count).plan
+  pub copies : (id count : ℕ) → AreOwnErrands count (copy_visit id count).plan
   pub stays : (v w : VisitState) (e : Errand) (said : Said) → IsShardCount v.count
       → AreOwnErrands v.count v.plan → EntersAny v e said w → AreOwnErrands w.count w.plan
+
+-- What was made
+
+-- an offer: a horizon and digests
+abbrev pub IsOffer : Made → Type 0
+IsOffer made = (horizon : ℕ) × (table : List (List ℕ)) × (made ≡ gathered horizon table)
+
+-- a copy: a history
+abbrev pub IsCopy : Made → Type 0
+IsCopy made = (h : HistoryView) × (made ≡ joined h)
+
+-- this is so of what the visit has made, however far it went, whatever others did between two
+-- entries
+abbrev pub HasAlwaysMade : VisitState → (Made → Type 0) → Type 0
+HasAlwaysMade v IsSo = (entries : List (Operation Errand Said)) (w : VisitState)
+    → Runs EntersAny v entries w → IsSo w.made
+
+-- A visit that offers has always made an offer, and one that copies a copy.
+pub record MadeStaysOfItsKind : Type 0 where
+  pub offers : (id count : ℕ) → HasAlwaysMade (offer_visit id count) IsOffer
+  pub copies : (id count : ℕ) → HasAlwaysMade (copy_visit id count) IsCopy
 
 -- Messages taken out early
 

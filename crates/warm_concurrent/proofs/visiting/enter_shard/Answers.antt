@@ -5,9 +5,10 @@ use Rattle.warm_visits.specs.Visits.{Errand, VisitState}
 use Rattle.warm_shard_machine.specs.Entering.{IsNextAt}
 use Rattle.warm_shard_machine.specs.ShardSteps.{MayAnswer}
 use Rattle.warm_shard_machine.specs.Visits.{EntersAs}
+use Rattle.warm_shards.proofs.VisitReceives.{stopped_if as refused_by}
 use Rattle.warm_concurrent.specs.declared.fault.SharedFault.{SharedFault}
 use Rattle.warm_concurrent.specs.Visiting.{EntryFails}
-use Rattle.warm_concurrent.proofs.EntryLemmas.{fails, refused_by, same_plan, some_stage}
+use Rattle.warm_concurrent.proofs.EntryLemmas.{fails, same_plan, some_stage}
 use Rattle.warm_concurrent.proofs.visiting.enter_shard.Goals as goal
 
 -- a visit that was refused has the errands that it had

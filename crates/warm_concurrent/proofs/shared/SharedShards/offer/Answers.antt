@@ -1,16 +1,17 @@
 use Rattle.std.proofs.Common.{◌≡◌, length, refl, sym, subst, ◌∙◌}
-use Rattle.warm_visits.specs.Visits.{VisitState, offer_visit, offering}
+use Rattle.warm_visits.specs.Visits.{VisitState, offer_visit}
+use Rattle.warm_visits.proofs.VisitErrands.{errands_are_own}
 use Rattle.warm_concurrent.specs.Attached.{opened_id}
 use Rattle.warm_concurrent.specs.Visiting.{GoneThrough}
 use Rattle.warm_concurrent.proofs.EntryLemmas.{visits}
-use Rattle.warm_concurrent.proofs.ReadLemmas.{offered_some, own_each}
+use Rattle.warm_concurrent.proofs.ReadLemmas.{offered_some}
 use Rattle.warm_concurrent.proofs.shared.SharedShards.offer.Goals as goal
 
 pub go_through-requires-clause-visit : goal.go_through-requires-clause-visit
 go_through-requires-clause-visit g c κs within =
     let id = c.id.result in
     let n = c.count.result in
-    visits (length c.args.self.now) n c.in-Ok.visit (offer_visit id n) c.count.ensures.value c.in-Ok.ensures refl (own_each n offering (λ i. tt)) refl
+    visits (length c.args.self.now) n c.in-Ok.visit (offer_visit id n) c.count.ensures.value c.in-Ok.ensures refl (errands_are_own.offers id n) refl
 
 pub unreachable-requires : goal.unreachable-requires
 unreachable-requires g c =
