@@ -13,7 +13,7 @@ use Rattle.warm_concurrent.specs.Opening.{AreClosed, ClosesShard, openings, shar
 use Rattle.warm_concurrent.specs.Pins.{ClosesUnpinned, IsCounted, NoneIsPinned, PinsComeBack, all_pins, calls_held}
 use Rattle.warm_shard_machine.specs.Pins.{pin_by, pins_in, pool_pins, unpin_by}
 use Rattle.warm_concurrent.proofs.ClosedShardLemmas.{closed_node, opened_node, turns_long}
-use Rattle.warm_concurrent.proofs.LawLemmas.{below}
+use Rattle.std.proofs.lemmas.Bool.{cases_lt}
 use Rattle.warm_concurrent.proofs.CallSumLemmas.{log_total, total}
 use Rattle.warm_concurrent.specs.Rights.{HasWholeRight}
 use Rattle.warm_shard_machine.proofs.PoolPinLemmas.{IsFree, pool_free}
@@ -100,7 +100,7 @@ no_sum f d (x ∷ xs) each =
 
 -- if frames have no pins together, none has one
 none_in : (fs : List FrameView) → pins_in fs ≡ 0 → (j : ℕ) → (get_or fs j no_frame).fixes ≡ 0
-none_in fs none j = elim (below j (length fs)) [
+none_in fs none j = elim (cases_lt j (length fs)) [
   | inl lt ↦ omega (arith, none, get_or-le-sum_by (λ f. f.fixes) fs j no_frame lt)
   | inr le ↦ ap (λ (f : FrameView). f.fixes) (get_or_past fs j no_frame le)
 ]

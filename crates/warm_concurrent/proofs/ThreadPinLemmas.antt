@@ -21,8 +21,9 @@ use Rattle.warm_concurrent.specs.Opening.{AreFirst, AreHalved, AreSplit, PassesA
 use Rattle.warm_concurrent.specs.Pins.{CallsPin, HasPinned, IsCounted, PinsAreCounted, calls_held, thread_calls}
 use Rattle.warm_shard_machine.specs.Pins.{pin_by, unpin_by}
 use Rattle.warm_concurrent.specs.Visiting.{EntersByTurn, Visiting, visiting}
-use Rattle.warm_concurrent.specs.Whole.{Does, First, RaisesShard}
-use Rattle.warm_concurrent.proofs.LawLemmas.{below}
+use Rattle.warm_concurrent.specs.Whole.{Does, RaisesShard}
+use Rattle.warm_shards.specs.EachShard.{First}
+use Rattle.warm_shards.proofs.FirstLemmas.{each_first}
 use Rattle.warm_concurrent.proofs.CallSumLemmas.{total}
 use Rattle.warm_shard_machine.proofs.ShardPinLemmas.{pin_refused, unpin_refused}
 
@@ -170,12 +171,9 @@ quiet_same w p q c r none got = omega (arith, none, got_more w p q c r got)
 
 quiet_firsts : (So : ℕ → ShardPass → ShardPass → Type 0)
     → ((i : ℕ) (p q : ShardPass) → So i p q → IsQuiet p q) → (k : ℕ) (old new : List ShardPass)
-    → First So k old new → HasPinned 0 0 old new
+    → First no_pass So k old new → HasPinned 0 0 old new
 quiet_firsts So quiet k old new so =
-    let each : (j : ℕ) → IsQuiet (shard_pass old j) (shard_pass new j) = λ j. elim (below j k) [
-      | inl lt ↦ quiet j (shard_pass old j) (shard_pass new j) (so.first j lt)
-      | inr le ↦ inl (so.others j le)
-    ] in
+    let each : (j : ℕ) → IsQuiet (shard_pass old j) (shard_pass new j) = each_first So IsQuiet (λ p. inl refl) quiet k old new so in
     record {
       pins = each_same pin_by old new so.count (λ j lt. elim (each j) [ inl same ↦ ap (weight pin_by) same | inr (c, r, none, also, got) ↦ quiet_same pin_by (shard_pass old j) (shard_pass new j) c r none got ]);
       unpins = each_same unpin_by old new so.count (λ j lt. elim (each j) [ inl same ↦ ap (weight unpin_by) same | inr (c, r, none, also, got) ↦ quiet_same unpin_by (shard_pass old j) (shard_pass new j) c r also got ]);

@@ -23,8 +23,8 @@ use Rattle.warm_gossip.proofs.VictimLemmas.{no_frame}
 use Rattle.warm_shards.specs.Clauses.{KeepPools, SameShards}
 use Rattle.warm_shards.specs.Shards.{AreShards, HasPagesOf, HoldsPagesOf, IsShard, held, no_shard, shard_at, whole}
 use Rattle.warm_visits.specs.ShardNumbers.{shard_of}
-use Rattle.warm_shards.proofs.AreShardsLemmas.{at_each, each_still, some_shards}
-use Rattle.warm_shards.proofs.Places.{read_at as at_place}
+use Rattle.warm_shards.proofs.AreShardsLemmas.{each_still, some_shards}
+use Rattle.warm_shards.proofs.Places.{at_each, read_at as at_place}
 use Rattle.warm_shards.proofs.Pages.{all_held, all_pages, all_taken, each_has}
 use Rattle.warm_visits.proofs.GivenLemmas.{bytes_same}
 
@@ -54,8 +54,8 @@ pub same_one : (old ns : List NodeState) (i : ℕ) (m : NodeState) → i < lengt
     → KeepsBytes (shard_at ns i).pool m.pool → SameShards old (set ns i m)
 same_one old ns i m lt same view bytes = record {
   count = length-set ns i m ∙ same.count;
-  views = at_each (λ k n. node_view n ≡ node_view (shard_at old k)) ns i m lt (view ∙ same.views i) (λ k other. same.views k);
-  bytes = at_each (λ k n. KeepsBytes (shard_at old k).pool n.pool) ns i m lt (bytes_after (shard_at old i).pool (shard_at ns i).pool m.pool (same.bytes i) bytes) (λ k other. same.bytes k);
+  views = at_each (λ k n. node_view n ≡ node_view (shard_at old k)) ns i m no_shard lt (view ∙ same.views i) (λ k other. same.views k);
+  bytes = at_each (λ k n. KeepsBytes (shard_at old k).pool n.pool) ns i m no_shard lt (bytes_after (shard_at old i).pool (shard_at ns i).pool m.pool (same.bytes i) bytes) (λ k other. same.bytes k);
 }
 
 pub same_keeps : (old new : List NodeState) → SameShards old new → KeepPools old new

@@ -33,7 +33,8 @@ use Rattle.warm_shards.specs.EachShard.{ShardsAreUnfixed, StopsAtShard, WriteBac
 use Rattle.warm_shards.proofs.Buckets.{shard_horizon}
 use Rattle.warm_shards.proofs.Calls.{alone_known, known_shard, read_at, same_shard}
 use Rattle.warm_shards.proofs.EngineCalls.{forgotten_own, frames_shard}
-use Rattle.warm_shards.proofs.AreShardsLemmas.{at_each, each_still, empty_shard, some_shards}
+use Rattle.warm_shards.proofs.AreShardsLemmas.{each_still, empty_shard, some_shards}
+use Rattle.warm_shards.proofs.Places.{at_each}
 use Rattle.warm_shards.proofs.WholeLemmas.{none_joined}
 
 abbrev pub Change : Type 1
@@ -41,24 +42,10 @@ Change = NodeState → NodeState → Type 0
 
 -- ---- one shard after the other
 
-pub none_gone : (change : Change) (old : List NodeState) → OfFirst change 0 old old
-none_gone change old = record { count = refl; first = λ i lt. absurd (omega arith); rest = λ i le. refl }
-
 -- the shard that is read is as it was
 pub was_left : (change : Change) (old ns : List NodeState) (k : ℕ) (n d : NodeState) → k < length ns
     → n ≡ get_or ns k d → OfFirst change k old ns → n ≡ shard_at old k
-was_left change old ns k n d lt at have = read_at ns k n d lt at ∙ have.rest k (omega arith)
-
-pub gone_more : (change : Change) (old ns : List NodeState) (k : ℕ) (n m d : NodeState)
-    → k < length ns → n ≡ get_or ns k d → change n m → OfFirst change k old ns
-    → OfFirst change (k + 1) old (set ns k m)
-gone_more change old ns k n m d lt at new have =
-    let here : n ≡ shard_at old k = was_left change old ns k n d lt at have in
-    record {
-      count = length-set ns k m ∙ have.count;
-      first = at_each (λ i x. i < k + 1 → change (shard_at old i) x) ns k m lt (λ less. subst (λ x. change x m) here new) (λ i other less. have.first i (omega arith));
-      rest = at_each (λ i x. k + 1 ≤ i → x ≡ shard_at old i) ns k m lt (λ le. absurd (omega arith)) (λ i other le. have.rest i (omega arith));
-    }
+was_left change old ns k n d lt at have = read_at ns k n d lt at ∙ have.others k (omega arith)
 
 pub gone_all : (change : Change) (old ns : List NodeState) (k : ℕ) → length old ≤ k
     → OfFirst change k old ns → OfEach change old ns
@@ -73,9 +60,9 @@ gone_stops change fails old ns k n m d lt at new have =
       count = length-set ns k m ∙ have.count;
       shard = k;
       there = omega (arith, have.count);
-      before = at_each (λ i x. i < k → change (shard_at old i) x) ns k m lt (λ less. absurd (omega arith)) (λ i other less. have.first i less);
+      before = at_each (λ i x. i < k → change (shard_at old i) x) ns k m no_shard lt (λ less. absurd (omega arith)) (λ i other less. have.first i less);
       at = subst (λ x. fails (shard_at old k) x) (sym (get_or-set_same ns k m no_shard lt)) (subst (λ x. fails x m) here new);
-      after = at_each (λ i x. k < i → i < length old → x ≡ shard_at old i) ns k m lt (λ less. absurd (omega arith)) (λ i other less low. have.rest i (omega arith));
+      after = at_each (λ i x. k < i → i < length old → x ≡ shard_at old i) ns k m no_shard lt (λ less. absurd (omega arith)) (λ i other less low. have.others i (omega arith));
     }
 
 -- ---- one call after another
@@ -275,8 +262,8 @@ stops_risen horizon fails old mid new k stops is risen = record {
   shard = stops.shard;
   there = stops.there;
   before = λ i less. rises_after horizon (shard_at old i) (shard_at mid i) (shard_at new i) (stops.before i less) (risen.first i (omega (arith, is)));
-  at = subst (λ n. fails (shard_at old stops.shard) n) (sym (risen.rest stops.shard (omega (arith, is)))) stops.at;
-  after = λ i less low. risen.rest i (omega (arith, is)) ∙ stops.after i less low;
+  at = subst (λ n. fails (shard_at old stops.shard) n) (sym (risen.others stops.shard (omega (arith, is)))) stops.at;
+  after = λ i less low. risen.others i (omega (arith, is)) ∙ stops.after i less low;
 }
 
 pub fails_risen : (horizon : ℕ) (fails : Change) (old ns new : List NodeState) (k : ℕ)

@@ -20,7 +20,8 @@ use Rattle.warm_shards.specs.Given.{AreGiven, Gives}
 use Rattle.warm_visits.specs.Given.{GivesOne, IsGiven, IsSame, at_horizon}
 use Rattle.warm_shards.specs.Shards.{AreShards, no_shard, shard_at, whole}
 use Rattle.warm_visits.specs.ShardNumbers.{of_first_shards, of_shard, shard_of}
-use Rattle.warm_shards.proofs.AreShardsLemmas.{at_each, each_still, some_shards}
+use Rattle.warm_shards.proofs.AreShardsLemmas.{each_still, some_shards}
+use Rattle.warm_shards.proofs.Places.{at_each}
 use Rattle.warm_shards.proofs.Buckets.{shard_horizon}
 use Rattle.warm_shards.proofs.Calls.{bytes_after, keep_then, read_at, takes_shard}
 use Rattle.warm_visits.proofs.GivenLemmas.{bytes_same}
@@ -144,8 +145,8 @@ given_more S P k old ns n m d lt at is given have =
     let here : IsGiven part (shard_at ns k) m = subst (λ (x : NodeState). IsGiven part x m) (read_at ns k n d lt at) (subst (λ (T : ReferenceSet). IsGiven T n m) is given) in
     record {
       count = length-set ns k m ∙ have.count;
-      first = at_each (λ i x. i < k + 1 → IsGiven (of_shard (length old) i S) (shard_at old i) x) ns k m lt (λ less. given_then part (shard_at old k) (shard_at ns k) m (have.rest k (omega arith)) here) (λ i other less. have.first i (omega arith));
-      rest = at_each (λ i x. k + 1 ≤ i → IsSame (shard_at old i) x) ns k m lt (λ over. absurd (omega arith)) (λ i other over. have.rest i (omega arith));
+      first = at_each (λ i x. i < k + 1 → IsGiven (of_shard (length old) i S) (shard_at old i) x) ns k m no_shard lt (λ less. given_then part (shard_at old k) (shard_at ns k) m (have.rest k (omega arith)) here) (λ i other less. have.first i (omega arith));
+      rest = at_each (λ i x. k + 1 ≤ i → IsSame (shard_at old i) x) ns k m no_shard lt (λ over. absurd (omega arith)) (λ i other over. have.rest i (omega arith));
     }
 
 -- a shard that has none yet refused its part
@@ -156,8 +157,8 @@ given_stays S k j old ns n m d lt over at same have =
     let here : IsSame (shard_at ns j) m = subst (λ (x : NodeState). IsSame x m) (read_at ns j n d lt at) same in
     record {
       count = length-set ns j m ∙ have.count;
-      first = at_each (λ i x. i < k → IsGiven (of_shard (length old) i S) (shard_at old i) x) ns j m lt (λ less. absurd (omega arith)) (λ i other less. have.first i less);
-      rest = at_each (λ i x. k ≤ i → IsSame (shard_at old i) x) ns j m lt (λ le. same_then (shard_at old j) (shard_at ns j) m (have.rest j over) here) (λ i other le. have.rest i le);
+      first = at_each (λ i x. i < k → IsGiven (of_shard (length old) i S) (shard_at old i) x) ns j m no_shard lt (λ less. absurd (omega arith)) (λ i other less. have.first i less);
+      rest = at_each (λ i x. k ≤ i → IsSame (shard_at old i) x) ns j m no_shard lt (λ le. same_then (shard_at old j) (shard_at ns j) m (have.rest j over) here) (λ i other le. have.rest i le);
     }
 
 -- ---- the whole call
@@ -229,7 +230,7 @@ gives_alone S ns i n m d (Ok given) are lt le own at one =
     let page : Reference → PageId = λ r. r.page in
     let here : IsGiven S (shard_at ns i) m = subst (λ (x : NodeState). IsGiven S x m) (read_at ns i n d lt at) one.given in
     let all : S ≡ of_shard count i S = λ j. record { horizon = S.horizon; given = sym (only_part page count i S.given own) j } in
-    let each = at_each (λ k x. k < count → IsGiven (of_shard count k S) (shard_at ns k) x) ns i m lt (λ less. subst (λ (T : ReferenceSet). IsGiven T (shard_at ns i) m) all here) (λ k other less. no_more S (of_shard count k S) ns k (shard_at ns k) are less le (λ j. record { horizon = S.horizon; given = sym (other_part page count i k S.given other own) j }) (refl, bytes_same (shard_at ns k).pool)) in
+    let each = at_each (λ k x. k < count → IsGiven (of_shard count k S) (shard_at ns k) x) ns i m no_shard lt (λ less. subst (λ (T : ReferenceSet). IsGiven T (shard_at ns i) m) all here) (λ k other less. no_more S (of_shard count k S) ns k (shard_at ns k) are less le (λ j. record { horizon = S.horizon; given = sym (other_part page count i k S.given other own) j }) (refl, bytes_same (shard_at ns k).pool)) in
     gives_ok S ns (set ns i m) given (given_all S ns (set ns i m) are (record { count = length-set ns i m; each = each }))
 
 -- ---- raised, and then given

@@ -1,7 +1,6 @@
 -- Places of a list: what stands there, and what does after one has changed.
-use Rattle.std.proofs.Common.{◌≡◌, ◌≢◌, ℕ, zero, suc, ◌<◌, Bool, true, false, List, [], ◌∷◌, length, set, get_or, refl, sym, subst, ◌∙◌, arith}
-use Rattle.std.specs.Prelude.{nat_eq}
-use Rattle.std.proofs.lemmas.Bool.{eq-eqb, eqb-true}
+use Rattle.std.proofs.Common.{◌≡◌, ◌≢◌, inl, inr, ℕ, zero, suc, ◌<◌, List, [], ◌∷◌, length, set, get_or, sym, subst, arith}
+use Rattle.std.proofs.lemmas.Bool.{cases_eq}
 use Rattle.std.proofs.lemmas.List.{get_or-set_other, get_or-set_same}
 
 module _ {A : Type 0} where
@@ -15,12 +14,7 @@ module _ {A : Type 0} where
   -- what is true of the new item and of the others is true of each
   pub at_each : (P : ℕ → A → Type 0) (xs : List A) (i : ℕ) (a d : A) → i < length xs → P i a
       → ((k : ℕ) → k ≢ i → P k (get_or xs k d)) → (k : ℕ) → P k (get_or (set xs i a) k d)
-  at_each P xs i a d lt new old k = cases (nat_eq k i) refl
-    where
-      cases : (b : Bool) → nat_eq k i ≡ b → P k (get_or (set xs i a) k d)
-      cases true is =
-          let same : k ≡ i = eqb-true k i is in
-          subst (λ x. P x (get_or (set xs i a) x d)) (sym same) (subst (P i) (sym (get_or-set_same xs i a d lt)) new)
-      cases false is =
-          let other : k ≢ i = λ e. let no : true ≡ false = sym (eq-eqb k i e) ∙ is in absurd (cc) in
-          subst (P k) (sym (get_or-set_other xs i k a d other)) (old k other)
+  at_each P xs i a d lt new old k = elim (cases_eq k i) [
+    | inl same ↦ subst (λ x. P x (get_or (set xs i a) x d)) (sym same) (subst (P i) (sym (get_or-set_same xs i a d lt)) new)
+    | inr other ↦ subst (P k) (sym (get_or-set_other xs i k a d other)) (old k other)
+  ]
