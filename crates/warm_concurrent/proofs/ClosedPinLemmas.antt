@@ -1,6 +1,6 @@
 -- The pins that a close leaves.
 use Rattle.std.specs.List.{sum_by}
-use Rattle.std.proofs.Common.{◌≡◌, inl, inr, ℕ, suc, ◌+◌, ◌<◌, List, [], ◌∷◌, length, map, get_or, None, Result, Ok, refl, sym, ap, subst, ◌∙◌, arith}
+use Rattle.std.proofs.Common.{◌≡◌, inl, inr, ℕ, suc, ◌+◌, ◌<◌, List, [], ◌∷◌, length, map, get_or, Result, Ok, refl, sym, ap, subst, ◌∙◌, arith}
 use Rattle.std.proofs.lemmas.List.{get_or_past, length-map}
 use Rattle.std.proofs.lemmas.List.Sums.{get_or-le-sum_by, sum_by-cons}
 use Rattle.warm_turn.specs.Shares.{IsWhole}
@@ -19,7 +19,8 @@ use Rattle.warm_concurrent.specs.Rights.{HasWholeRight}
 use Rattle.warm_shard_machine.proofs.PoolPinLemmas.{IsFree, pool_free}
 use Rattle.warm_concurrent.proofs.CloseRightLemmas.{closed_gives_back}
 use Rattle.warm_shard_machine.proofs.ShardPinLemmas.{run_moves}
-use Rattle.warm_concurrent.proofs.ThreadPinLemmas.{thread_is, weight}
+use Rattle.warm_gossip.proofs.VictimLemmas.{no_frame}
+use Rattle.warm_concurrent.proofs.ThreadPinLemmas.{no_sum, thread_is, weight}
 
 -- one shard: its log has the calls that the pass holds, and no others
 closed_pins : (turn : ShardTurn) (known : Known) (node : NodeState)
@@ -85,18 +86,6 @@ pins_come_back opened turns thread nodes opens pools are counted right closed =
     come_back opened turns thread nodes opens (λ i lt. pool_free (shard_at opened i).pool (pools i lt)) are counted right closed
 
 -- ---- none
-
-abbrev no_frame : FrameView
-no_frame = record { page = None; generation = 0; fixes = 0 }
-
-no_sum : {A : Type 0} (f : A → ℕ) (d : A) (xs : List A)
-    → ((i : ℕ) → i < length xs → f (get_or xs i d) ≡ 0) → sum_by f xs ≡ 0
-no_sum f d [] each = refl
-no_sum f d (x ∷ xs) each =
-    let more = sum_by-cons f x xs in
-    let first : f x ≡ 0 = each 0 (omega arith) in
-    let rest = no_sum f d xs (λ i lt. each (suc i) (omega (arith, lt))) in
-    omega (arith, more, first, rest)
 
 -- if frames have no pins together, none has one
 none_in : (fs : List FrameView) → pins_in fs ≡ 0 → (j : ℕ) → (get_or fs j no_frame).fixes ≡ 0

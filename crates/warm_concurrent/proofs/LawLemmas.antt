@@ -1,6 +1,6 @@
 -- The laws of shared shards.
 use Rattle.std.proofs.lemmas.List.{length-set}
-use Rattle.std.proofs.Common.{◌≡◌, ◌⊎◌, inl, inr, ℕ, zero, suc, ◌<◌, ◌≤◌, List, [], ◌∷◌, ◌++◌, length, refl, sym, ap, subst, ◌∙◌, arith, append-nil, append_assoc}
+use Rattle.std.proofs.Common.{◌≡◌, ℕ, ◌<◌, List, [], ◌∷◌, ◌++◌, length, refl, sym, ap, subst, ◌∙◌, append-nil, append_assoc}
 use mathlib.Core.List.{IsPrefix}
 use Rattle.warm_history.specs.ReferenceSets.{◌∪◌}
 use Rattle.warm_history.specs.Histories.{history, references_of}
@@ -24,7 +24,7 @@ use Rattle.warm_concurrent.specs.Visiting.{EntersByTurn, Visiting, visiting}
 use Rattle.warm_concurrent.specs.Whole.{Does, RaisesShard}
 use Rattle.warm_shards.specs.EachShard.{First}
 use Rattle.warm_shards.proofs.FirstLemmas.{each_first}
-use Rattle.warm_shards.proofs.Places.{at_each}
+use Rattle.warm_frame_table.proofs.ListLemmas.{at_set}
 
 pub together_are_of_given : TogetherAreOfGiven
 together_are_of_given [] [] stand = refl
@@ -55,7 +55,7 @@ module _ (P : ShardPass → ShardPass → Type 0) (self : (p : ShardPass) → P 
   one_so old new i lt others changed = (
     ap length others ∙ length-set old i (shard_pass new i),
     λ j. subst (λ (ps : List ShardPass). P (shard_pass old j) (shard_pass ps j)) (sym others)
-        (at_each (λ k q. P (shard_pass old k) q) old i (shard_pass new i) no_pass lt changed (λ k apart. self (shard_pass old k)) j),
+        (at_set no_pass (λ k q. P (shard_pass old k) q) old i (shard_pass new i) lt changed (λ k apart. self (shard_pass old k)) j),
   )
 
   firsts_so : (So : ℕ → ShardPass → ShardPass → Type 0)

@@ -1,5 +1,5 @@
 -- What lists of calls gave, as sets of references: part by part, and together.
-use Rattle.std.proofs.Common.{◌≡◌, inl, inr, ℕ, zero, suc, ◌<◌, ◌≤◌, true, List, [], ◌∷◌, ◌++◌, max, refl, sym, ap, ◌∙◌, arith, append-nil}
+use Rattle.std.proofs.Common.{◌≡◌, inl, inr, ℕ, zero, suc, ◌<◌, ◌≤◌, true, List, [], ◌∷◌, ◌++◌, max, refl, sym, ap, ◌∙◌, arith}
 use Rattle.std.specs.Prelude.{nat_eq}
 use Rattle.std.proofs.lemmas.Bool.{cases_eq, eq-eqb}
 use Rattle.warm_stamps.specs.declared.Reference.{Reference}
@@ -11,15 +11,11 @@ use Rattle.warm_history.proofs.SetLemmas.{hist_of_set}
 use Rattle.warm_visits.specs.ShardNumbers.{of_shard, shard_of}
 use Rattle.warm_visits.proofs.Lists.{from_filter, in_both, in_filter, in_first, in_second}
 use Rattle.warm_shard_machine.specs.Laws.{Log}
+pub use Rattle.warm_shard_machine.proofs.EnteringLemmas.{nothing_more as union_none}
 use Rattle.warm_concurrent.specs.Given.{SameGiven, gave, gave_call}
 use Rattle.warm_concurrent.specs.Laws.{all_of}
 
 -- ---- unions
-
-pub union_none : (S : ReferenceSet) → S ∪ set_of_list [] ≡ S
-union_none S =
-    let late : max S.horizon 0 ≡ S.horizon = omega arith in
-    λ i. record { horizon = late i; given = append-nil S.given i }
 
 pub none_union : (S : ReferenceSet) → set_of_list [] ∪ S ≡ S
 none_union S =

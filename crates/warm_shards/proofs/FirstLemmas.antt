@@ -3,26 +3,31 @@ use Rattle.std.proofs.Common.{◌≡◌, inl, inr, ℕ, ◌+◌, ◌<◌, ◌≤
 use Rattle.std.proofs.lemmas.Bool.{cases_lt}
 use Rattle.std.proofs.lemmas.List.{length-set, set-get_or}
 use Rattle.warm_shards.specs.EachShard.{First}
-use Rattle.warm_shards.proofs.Places.{at_each}
+use Rattle.warm_frame_table.proofs.ListLemmas.{at_set}
 
 module _ {A : Type 0} {none : A} (So : ℕ → A → A → Type 0) where
   -- no item
   pub none_first : (old : List A) → First none So 0 old old
   none_first old = record { count = refl; first = λ i lt. absurd (omega arith); others = λ i le. refl }
 
+  -- the next item as well, which is set
+  pub next_first : (k : ℕ) (old mid : List A) (a : A) → k < length old → First none So k old mid
+      → So k (get_or mid k none) a → First none So (k + 1) old (set mid k a)
+  next_first k old mid a lt so next =
+      let here : So k (get_or old k none) a = subst (λ b. So k b a) (so.others k (omega arith)) next in
+      let there : k < length mid = omega (arith, lt, so.count) in
+      record {
+        count = length-set mid k a ∙ so.count;
+        first = at_set none (λ i x. i < k + 1 → So i (get_or old i none) x) mid k a there (λ less. here) (λ i apart less. so.first i (omega (arith, less, apart)));
+        others = at_set none (λ i x. k + 1 ≤ i → x ≡ get_or old i none) mid k a there (λ le. absurd (omega (arith, le))) (λ i apart le. so.others i (omega (arith, le)));
+      }
+
   -- the next item as well: it alone changes
   pub one_first : (k : ℕ) (old mid new : List A) → k < length old → First none So k old mid
       → new ≡ set mid k (get_or new k none) → So k (get_or mid k none) (get_or new k none)
       → First none So (k + 1) old new
   one_first k old mid new lt so others next =
-      let a = get_or new k none in
-      let here : So k (get_or old k none) a = subst (λ b. So k b a) (so.others k (omega arith)) next in
-      let there : k < length mid = omega (arith, lt, so.count) in
-      subst (First none So (k + 1) old) (sym others) (record {
-        count = length-set mid k a ∙ so.count;
-        first = at_each (λ i x. i < k + 1 → So i (get_or old i none) x) mid k a none there (λ less. here) (λ i apart less. so.first i (omega (arith, less, apart)));
-        others = at_each (λ i x. k + 1 ≤ i → x ≡ get_or old i none) mid k a none there (λ le. absurd (omega (arith, le))) (λ i apart le. so.others i (omega (arith, le)));
-      })
+      subst (First none So (k + 1) old) (sym others) (next_first k old mid (get_or new k none) lt so next)
 
   -- the next item as well, which stays as it was
   pub same_first : (k : ℕ) (old mid : List A) → k < length old → First none So k old mid
