@@ -33,7 +33,7 @@ use Rattle.warm_concurrent.specs.Visiting.{EntryFails, IsGoneThrough, StageFails
 use Rattle.warm_concurrent.specs.Whole.{Does, RaiseFails}
 use Rattle.warm_concurrent.proofs.GivenLemmas.{EachGives, Gives, all_given, as_given, given_as, given_by_sum, given_none, given_then, gives_as, gives_called, gives_none, gives_spent, nothing, one_nothing, other_same, raised_each}
 use Rattle.warm_concurrent.proofs.EntryLemmas.{names_next}
-use Rattle.warm_concurrent.proofs.LawLemmas.{below}
+use Rattle.std.proofs.lemmas.Bool.{cases_lt as below}
 use Rattle.warm_concurrent.proofs.RaisedLemmas.{RisenAll, all_both, all_risen, both_parts, parts_then, raises, risen_read, risen_stage}
 use Rattle.warm_concurrent.proofs.ReadLemmas.{AsksNone, asks_each, reads_nothing}
 use Rattle.warm_concurrent.proofs.ReferenceSetLemmas.{none_union, same_self, sum, union_none}

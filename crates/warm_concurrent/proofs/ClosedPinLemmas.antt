@@ -1,6 +1,6 @@
 -- The pins that a close leaves.
 use Rattle.std.specs.List.{sum_by}
-use Rattle.std.proofs.Common.{◌≡◌, inl, inr, ℕ, suc, ◌+◌, ◌<◌, List, [], ◌∷◌, length, map, get_or, None, Result, Ok, refl, sym, ap, subst, ◌∙◌, arith}
+use Rattle.std.proofs.Common.{◌≡◌, inl, inr, ℕ, suc, ◌+◌, ◌<◌, List, [], ◌∷◌, length, map, get_or, Result, Ok, refl, sym, ap, subst, ◌∙◌, arith}
 use Rattle.std.proofs.lemmas.List.{get_or_past, length-map}
 use Rattle.std.proofs.lemmas.List.Sums.{get_or-le-sum_by, sum_by-cons}
 use Rattle.warm_turn.specs.Shares.{IsWhole}
@@ -13,13 +13,14 @@ use Rattle.warm_concurrent.specs.Opening.{AreClosed, ClosesShard, openings, shar
 use Rattle.warm_concurrent.specs.Pins.{ClosesUnpinned, IsCounted, NoneIsPinned, PinsComeBack, all_pins, calls_held}
 use Rattle.warm_shard_machine.specs.Pins.{pin_by, pins_in, pool_pins, unpin_by}
 use Rattle.warm_concurrent.proofs.ClosedShardLemmas.{closed_node, opened_node, turns_long}
-use Rattle.warm_concurrent.proofs.LawLemmas.{below}
+use Rattle.std.proofs.lemmas.Bool.{cases_lt}
 use Rattle.warm_concurrent.proofs.CallSumLemmas.{log_total, total}
 use Rattle.warm_concurrent.specs.Rights.{HasWholeRight}
 use Rattle.warm_shard_machine.proofs.PoolPinLemmas.{IsFree, pool_free}
 use Rattle.warm_concurrent.proofs.CloseRightLemmas.{closed_gives_back}
 use Rattle.warm_shard_machine.proofs.ShardPinLemmas.{run_moves}
-use Rattle.warm_concurrent.proofs.ThreadPinLemmas.{thread_is, weight}
+use Rattle.warm_gossip.proofs.VictimLemmas.{no_frame}
+use Rattle.warm_concurrent.proofs.ThreadPinLemmas.{no_sum, thread_is, weight}
 
 -- one shard: its log has the calls that the pass holds, and no others
 closed_pins : (turn : ShardTurn) (known : Known) (node : NodeState)
@@ -86,21 +87,9 @@ pins_come_back opened turns thread nodes opens pools are counted right closed =
 
 -- ---- none
 
-abbrev no_frame : FrameView
-no_frame = record { page = None; generation = 0; fixes = 0 }
-
-no_sum : {A : Type 0} (f : A → ℕ) (d : A) (xs : List A)
-    → ((i : ℕ) → i < length xs → f (get_or xs i d) ≡ 0) → sum_by f xs ≡ 0
-no_sum f d [] each = refl
-no_sum f d (x ∷ xs) each =
-    let more = sum_by-cons f x xs in
-    let first : f x ≡ 0 = each 0 (omega arith) in
-    let rest = no_sum f d xs (λ i lt. each (suc i) (omega (arith, lt))) in
-    omega (arith, more, first, rest)
-
 -- if frames have no pins together, none has one
 none_in : (fs : List FrameView) → pins_in fs ≡ 0 → (j : ℕ) → (get_or fs j no_frame).fixes ≡ 0
-none_in fs none j = elim (below j (length fs)) [
+none_in fs none j = elim (cases_lt j (length fs)) [
   | inl lt ↦ omega (arith, none, get_or-le-sum_by (λ f. f.fixes) fs j no_frame lt)
   | inr le ↦ ap (λ (f : FrameView). f.fixes) (get_or_past fs j no_frame le)
 ]

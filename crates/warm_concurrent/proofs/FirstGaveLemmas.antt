@@ -1,10 +1,10 @@
 -- What the first shards gave, and one more gives.
 use Rattle.std.proofs.Common.{◌≡◌, ℕ, ◌+◌, ◌<◌, List, [], ◌∷◌, ◌++◌, length, get_or, refl, sym, ap, subst, ◌∙◌, arith}
 use Rattle.std.proofs.lemmas.List.{length-append}
-use Rattle.warm_concurrent.specs.Attached.{KeepsOtherPasses, ShardPass, shard_pass}
+use Rattle.warm_concurrent.specs.Attached.{KeepsOtherPasses, ShardPass, no_pass, shard_pass}
 use Rattle.warm_concurrent.specs.Raising.{FirstGave}
-use Rattle.warm_concurrent.specs.Whole.{First}
-use Rattle.warm_concurrent.proofs.WholeCallLemmas.{none_first, one_first}
+use Rattle.warm_shards.specs.EachShard.{First}
+use Rattle.warm_shards.proofs.FirstLemmas.{none_first, one_first}
 use Rattle.warm_concurrent.proofs.ListLemmas.{get_front, get_last}
 
 module _ {T : Type 0} (So : T → ℕ → ShardPass → ShardPass → Type 0) (none : T) where
@@ -18,7 +18,7 @@ module _ {T : Type 0} (So : T → ℕ → ShardPass → ShardPass → Type 0) (n
     Here = λ i. So (get_or (given ++ t ∷ []) i none) i
 
     -- the first items are those that they were
-    grown : First Here k old mid
+    grown : First no_pass Here k old mid
     grown = record {
       count = so.1.count;
       first = λ i lt. subst (λ x. So x i (shard_pass old i) (shard_pass mid i)) (sym (get_front given t none i (omega (arith, lt, so.0)))) (so.1.first i lt);

@@ -16,7 +16,8 @@ use Rattle.warm_concurrent.specs.Clauses.{Got}
 use Rattle.warm_concurrent.specs.Given.{HasGiven, SameGiven, gave, gave_call, gave_together, log_at, only_horizon}
 use Rattle.warm_shard_machine.specs.Laws.{Log}
 use Rattle.warm_concurrent.specs.Laws.{all_of}
-use Rattle.warm_concurrent.specs.Whole.{First, RaisesFirst, RaisesShard}
+use Rattle.warm_concurrent.specs.Whole.{RaisesFirst, RaisesShard}
+use Rattle.warm_shards.specs.EachShard.{First}
 use Rattle.warm_concurrent.proofs.ListLemmas.{push_each}
 use Rattle.warm_concurrent.proofs.ReferenceSetLemmas.{all_of_push, gave_append, sum, sum_is, union_none}
 
@@ -58,11 +59,11 @@ gives_called old new c r got =
 
 -- each pass gave its set
 abbrev pub EachGives : (ℕ → ReferenceSet) → ℕ → List ShardPass → List ShardPass → Type 0
-EachGives T k old new = First (λ i. Gives (T i)) k old new
+EachGives T k old new = First no_pass (λ i. Gives (T i)) k old new
 
 pub as_given : (So : ℕ → ShardPass → ShardPass → Type 0) (T : ℕ → ReferenceSet) (k : ℕ)
     (old new : List ShardPass) → ((i : ℕ) (p q : ShardPass) → So i p q → Gives (T i) p q)
-    → First So k old new → EachGives T k old new
+    → First no_pass So k old new → EachGives T k old new
 as_given So T k old new each so = record {
   count = so.count;
   first = λ i lt. each i (shard_pass old i) (shard_pass new i) (so.first i lt);
@@ -79,11 +80,8 @@ given_then T U k old mid new one other = record {
 
 pub given_as : (T U : ℕ → ReferenceSet) (k : ℕ) (old new : List ShardPass) → ((i : ℕ) → T i ≡ U i)
     → EachGives T k old new → EachGives U k old new
-given_as T U k old new same given = record {
-  count = given.count;
-  first = λ i lt. gives_as (T i) (U i) (shard_pass old i) (shard_pass new i) (same i) (given.first i lt);
-  others = given.others;
-}
+given_as T U k old new same given =
+    as_given (λ i. Gives (T i)) U k old new (λ i p q. gives_as (T i) (U i) p q (same i)) given
 
 pub given_none : (k : ℕ) (old new : List ShardPass) → new ≡ old
     → EachGives (λ i. set_of_list []) k old new

@@ -1,6 +1,6 @@
 -- The laws of shared shards.
 use Rattle.std.proofs.lemmas.List.{length-set}
-use Rattle.std.proofs.Common.{◌≡◌, ◌⊎◌, inl, inr, ℕ, zero, suc, ◌<◌, ◌≤◌, List, [], ◌∷◌, ◌++◌, length, refl, sym, ap, subst, ◌∙◌, arith, append-nil, append_assoc}
+use Rattle.std.proofs.Common.{◌≡◌, ℕ, ◌<◌, List, [], ◌∷◌, ◌++◌, length, refl, sym, ap, subst, ◌∙◌, append-nil, append_assoc}
 use mathlib.Core.List.{IsPrefix}
 use Rattle.warm_history.specs.ReferenceSets.{◌∪◌}
 use Rattle.warm_history.specs.Histories.{history, references_of}
@@ -21,8 +21,10 @@ use Rattle.warm_concurrent.specs.Clauses.{CallFails, Got}
 use Rattle.warm_concurrent.specs.Laws.{OnlySeesMore, OverCalls, SeesMore, TogetherAreOfGiven, all_of, held_by}
 use Rattle.warm_shard_machine.specs.ShardSteps.{ShardStep}
 use Rattle.warm_concurrent.specs.Visiting.{EntersByTurn, Visiting, visiting}
-use Rattle.warm_concurrent.specs.Whole.{Does, First, RaisesShard}
-use Rattle.warm_shards.proofs.Places.{at_each}
+use Rattle.warm_concurrent.specs.Whole.{Does, RaisesShard}
+use Rattle.warm_shards.specs.EachShard.{First}
+use Rattle.warm_shards.proofs.FirstLemmas.{each_first}
+use Rattle.warm_frame_table.proofs.ListLemmas.{at_set}
 
 pub together_are_of_given : TogetherAreOfGiven
 together_are_of_given [] [] stand = refl
@@ -37,12 +39,6 @@ together_are_of_given (h ∷ hs) (S ∷ Ss) stand =
 
 -- ---- what calls leave of what a thread has
 
-pub below : (a b : ℕ) → (a < b) ⊎ (b ≤ a)
-below zero zero = inr (omega arith)
-below zero (suc b) = inl (omega arith)
-below (suc a) zero = inr (omega arith)
-below (suc a) (suc b) = elim (below a b) [ inl lt ↦ inl (omega (arith, lt)) | inr le ↦ inr (omega (arith, le)) ]
-
 -- A relation that holds of each pass and itself, goes on, and holds of a pass before and after a call,
 -- and before and after it is spent. So it holds of all passes of a thread, before and after each call
 -- of shards.
@@ -53,28 +49,19 @@ module _ (P : ShardPass → ShardPass → Type 0) (self : (p : ShardPass) → P 
   abbrev pub EachIsSo : List ShardPass → List ShardPass → Type 0
   EachIsSo old new = (length new ≡ length old) × ((i : ℕ) → P (shard_pass old i) (shard_pass new i))
 
-  same_so : (old new : ShardPass) → new ≡ old → P old new
-  same_so old new is = subst (λ (p : ShardPass). P old p) (sym is) (self old)
-
   -- if one pass changes so, and the others are as they were
   one_so : (old new : List ShardPass) (i : ℕ) → i < length old → KeepsOtherPasses old i new
       → P (shard_pass old i) (shard_pass new i) → EachIsSo old new
   one_so old new i lt others changed = (
     ap length others ∙ length-set old i (shard_pass new i),
     λ j. subst (λ (ps : List ShardPass). P (shard_pass old j) (shard_pass ps j)) (sym others)
-        (at_each (λ k q. P (shard_pass old k) q) old i (shard_pass new i) no_pass lt changed (λ k apart. self (shard_pass old k)) j),
+        (at_set no_pass (λ k q. P (shard_pass old k) q) old i (shard_pass new i) lt changed (λ k apart. self (shard_pass old k)) j),
   )
 
   firsts_so : (So : ℕ → ShardPass → ShardPass → Type 0)
       → ((i : ℕ) (old new : ShardPass) → So i old new → P old new) → (k : ℕ)
-      → (old new : List ShardPass) → First So k old new → EachIsSo old new
-  firsts_so So each k old new so = (
-    so.count,
-    λ j. elim (below j k) [
-      | inl lt ↦ each j (shard_pass old j) (shard_pass new j) (so.first j lt)
-      | inr le ↦ same_so (shard_pass old j) (shard_pass new j) (so.others j le)
-    ],
-  )
+      → (old new : List ShardPass) → First no_pass So k old new → EachIsSo old new
+  firsts_so So each k old new so = (so.count, each_first So P self each k old new so)
 
   then_so : (old mid new : List ShardPass) → EachIsSo old mid → EachIsSo mid new → EachIsSo old new
   then_so old mid new one other = (

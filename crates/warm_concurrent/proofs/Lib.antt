@@ -2,7 +2,6 @@ pub mod ListLemmas
 pub mod PassLemmas
 pub mod ShardNumberLemmas
 pub mod AttachingLemmas
-pub mod WholeCallLemmas
 pub mod FirstGaveLemmas
 pub mod CopyLemmas
 pub mod RaisingLemmas

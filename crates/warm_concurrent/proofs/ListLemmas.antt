@@ -1,7 +1,6 @@
 -- Items that are added at the end of a list, or taken from its start.
-use Rattle.std.proofs.Common.{◌≡◌, ◌≢◌, ℕ, zero, suc, ◌+◌, ◌<◌, Bool, true, false, List, [], ◌∷◌, ◌++◌, length, set, get_or, take, drop, refl, sym, ap, subst, ◌∙◌, arith, get_or-drop}
-use Rattle.std.specs.Prelude.{nat_eq}
-use Rattle.std.proofs.lemmas.Bool.{eq-eqb, eqb-true}
+use Rattle.std.proofs.Common.{◌≡◌, inl, inr, ℕ, zero, suc, ◌+◌, ◌<◌, List, [], ◌∷◌, ◌++◌, length, set, get_or, take, drop, refl, sym, ap, subst, ◌∙◌, arith, get_or-drop}
+use Rattle.std.proofs.lemmas.Bool.{cases_eq}
 use Rattle.std.proofs.lemmas.List.{set-get_or}
 use Rattle.warm_shards.proofs.Places.{read_at}
 
@@ -20,17 +19,14 @@ module _ {A : Type 0} where
   pub push_each : (P : ℕ → A → Type 0) (xs : List A) (a d : A) (k : ℕ) → length xs ≡ k
       → ((i : ℕ) → i < k → P i (get_or xs i d)) → P k a → (i : ℕ) → i < k + 1
       → P i (get_or (xs ++ a ∷ []) i d)
-  push_each P xs a d k long old new i lt = cases (nat_eq i k) refl
-    where
-      cases : (b : Bool) → nat_eq i k ≡ b → P i (get_or (xs ++ a ∷ []) i d)
-      cases true is =
-          let same : i ≡ k = eqb-true i k is in
-          let last : get_or (xs ++ a ∷ []) k d ≡ a = ap (λ j. get_or (xs ++ a ∷ []) j d) (sym long) ∙ get_last xs a d in
-          subst (λ j. P j (get_or (xs ++ a ∷ []) j d)) (sym same) (subst (P k) (sym last) new)
-      cases false is =
-          let other : i ≢ k = λ e. let no : true ≡ false = sym (eq-eqb i k e) ∙ is in absurd (cc) in
-          let less : i < k = omega (arith, lt, other) in
-          subst (P i) (sym (get_front xs a d i (omega (arith, less, long)))) (old i less)
+  push_each P xs a d k long old new i lt = elim (cases_eq i k) [
+    | inl same ↦
+        let last : get_or (xs ++ a ∷ []) k d ≡ a = ap (λ j. get_or (xs ++ a ∷ []) j d) (sym long) ∙ get_last xs a d in
+        subst (λ j. P j (get_or (xs ++ a ∷ []) j d)) (sym same) (subst (P k) (sym last) new)
+    | inr other ↦
+        let less : i < k = omega (arith, lt, other) in
+        subst (P i) (sym (get_front xs a d i (omega (arith, less, long)))) (old i less)
+  ]
 
   drop_next : (xs : List A) (j : ℕ) → drop 1 (drop j xs) ≡ drop (suc j) xs
   drop_next [] zero = refl

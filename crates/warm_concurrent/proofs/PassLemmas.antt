@@ -9,7 +9,7 @@ use Rattle.warm_concurrent.specs.Clauses.{AnsweredByShard, Spent}
 use Rattle.warm_shard_machine.specs.ShardSteps.{MayAnswer, ShardStep, IsOwn, ShardState}
 use Rattle.warm_visits.proofs.RunLemmas.{last_of}
 use Rattle.warm_shard_machine.proofs.ShardStepLemmas.{own_step, runs_keep}
-use Rattle.warm_shards.proofs.Places.{at_each}
+use Rattle.warm_frame_table.proofs.ListLemmas.{at_set as each_at}
 use Rattle.std.proofs.lemmas.Option.{same_Some}
 use Rattle.warm_machine.specs.declared.operation.Operation.{Operation}
 use Rattle.warm_machine.specs.Runs.{Runs, operation}
@@ -34,7 +34,7 @@ pub still_of : (turns : List ShardTurn) (old : List ShardPass) (i : ℕ) (p : Sh
     → AreOf turns (set old i p)
 still_of turns old i p are lt new = record {
   count = length-set old i p ∙ are.count;
-  each = at_each (λ k q. k < length turns → IsPassOf (shard_turn turns k) q) old i p no_pass (omega (arith, are.count)) (λ less. new) (λ k other less. are.each k less);
+  each = each_at no_pass (λ k q. k < length turns → IsPassOf (shard_turn turns k) q) old i p (omega (arith, are.count)) (λ less. new) (λ k other less. are.each k less);
 }
 
 -- and the others are as they were

@@ -21,7 +21,7 @@ use Rattle.warm_concurrent.proofs.GivenLemmas.{EachGives, Gives, given_as, given
 use Rattle.warm_concurrent.proofs.ReadLemmas.{AsksNone, reads_nothing}
 use Rattle.warm_concurrent.proofs.ReferenceSetLemmas.{union_none}
 use Rattle.warm_concurrent.proofs.VisitedLemmas.{EndsAt, PartGave, never_refused, part_gave, parts_given, turn_gives}
-use Rattle.warm_concurrent.proofs.WholeCallLemmas.{none_first, one_first}
+use Rattle.warm_shards.proofs.FirstLemmas.{none_first, one_first}
 
 -- ---- the horizon
 

@@ -1,6 +1,6 @@
 -- The pins that the calls of a thread gave and removed.
 use Rattle.std.specs.List.{flat_map, sum_by}
-use Rattle.std.proofs.Common.{◌≡◌, ◌⊎◌, inl, inr, ℕ, suc, ◌+◌, ◌<◌, List, [], ◌∷◌, ◌++◌, length, set, refl, sym, ap, ◌∙◌, arith}
+use Rattle.std.proofs.Common.{◌≡◌, ◌⊎◌, inl, inr, ℕ, suc, ◌+◌, ◌<◌, List, [], ◌∷◌, ◌++◌, length, set, get_or, refl, sym, ap, ◌∙◌, arith}
 use Rattle.std.proofs.lemmas.List.Concat.{flat_map-append}
 use Rattle.std.proofs.lemmas.List.Sums.{sum_by-append, sum_by-cons, sum_by-set, sum_by_push}
 use Rattle.warm_machine.specs.declared.operation.Operation.{Operation}
@@ -21,8 +21,9 @@ use Rattle.warm_concurrent.specs.Opening.{AreFirst, AreHalved, AreSplit, PassesA
 use Rattle.warm_concurrent.specs.Pins.{CallsPin, HasPinned, IsCounted, PinsAreCounted, calls_held, thread_calls}
 use Rattle.warm_shard_machine.specs.Pins.{pin_by, unpin_by}
 use Rattle.warm_concurrent.specs.Visiting.{EntersByTurn, Visiting, visiting}
-use Rattle.warm_concurrent.specs.Whole.{Does, First, RaisesShard}
-use Rattle.warm_concurrent.proofs.LawLemmas.{below}
+use Rattle.warm_concurrent.specs.Whole.{Does, RaisesShard}
+use Rattle.warm_shards.specs.EachShard.{First}
+use Rattle.warm_shards.proofs.FirstLemmas.{each_first}
 use Rattle.warm_concurrent.proofs.CallSumLemmas.{total}
 use Rattle.warm_shard_machine.proofs.ShardPinLemmas.{pin_refused, unpin_refused}
 
@@ -62,14 +63,14 @@ module _ (f : ShardPass → ℕ) where
       let rest = added_sums xs ys zs (omega (arith, long)) (omega (arith, also)) (λ i lt. each (suc i) (omega (arith, lt))) in
       omega (arith, one, two, both, first, rest)
 
-  no_sum : (xs : List ShardPass) → ((i : ℕ) → i < length xs → f (shard_pass xs i) ≡ 0)
-      → sum_by f xs ≡ 0
-  no_sum [] each = refl
-  no_sum (x ∷ xs) each =
-      let more = sum_by-cons f x xs in
-      let first : f x ≡ 0 = each 0 (omega arith) in
-      let rest = no_sum xs (λ i lt. each (suc i) (omega (arith, lt))) in
-      omega (arith, more, first, rest)
+pub no_sum : {A : Type 0} (f : A → ℕ) (d : A) (xs : List A)
+    → ((i : ℕ) → i < length xs → f (get_or xs i d) ≡ 0) → sum_by f xs ≡ 0
+no_sum f d [] each = refl
+no_sum f d (x ∷ xs) each =
+    let more = sum_by-cons f x xs in
+    let first : f x ≡ 0 = each 0 (omega arith) in
+    let rest = no_sum f d xs (λ i lt. each (suc i) (omega (arith, lt))) in
+    omega (arith, more, first, rest)
 
 -- ---- what the calls of passes come to
 
@@ -138,7 +139,7 @@ module _ (w : ShardCall → ShardReply → ℕ) where
 
   each_none : (ps : List ShardPass)
       → ((i : ℕ) → i < length ps → weight (shard_pass ps i) ≡ 0) → total w (thread_calls ps) ≡ 0
-  each_none ps each = thread_is ps ∙ no_sum weight ps each
+  each_none ps each = thread_is ps ∙ no_sum weight no_pass ps each
 
   -- both passes hold what the one holds into which the other was ended
   joined_both : (old other new : List ShardPass) → length other ≡ length old
@@ -170,12 +171,9 @@ quiet_same w p q c r none got = omega (arith, none, got_more w p q c r got)
 
 quiet_firsts : (So : ℕ → ShardPass → ShardPass → Type 0)
     → ((i : ℕ) (p q : ShardPass) → So i p q → IsQuiet p q) → (k : ℕ) (old new : List ShardPass)
-    → First So k old new → HasPinned 0 0 old new
+    → First no_pass So k old new → HasPinned 0 0 old new
 quiet_firsts So quiet k old new so =
-    let each : (j : ℕ) → IsQuiet (shard_pass old j) (shard_pass new j) = λ j. elim (below j k) [
-      | inl lt ↦ quiet j (shard_pass old j) (shard_pass new j) (so.first j lt)
-      | inr le ↦ inl (so.others j le)
-    ] in
+    let each : (j : ℕ) → IsQuiet (shard_pass old j) (shard_pass new j) = each_first So IsQuiet (λ p. inl refl) quiet k old new so in
     record {
       pins = each_same pin_by old new so.count (λ j lt. elim (each j) [ inl same ↦ ap (weight pin_by) same | inr (c, r, none, also, got) ↦ quiet_same pin_by (shard_pass old j) (shard_pass new j) c r none got ]);
       unpins = each_same unpin_by old new so.count (λ j lt. elim (each j) [ inl same ↦ ap (weight unpin_by) same | inr (c, r, none, also, got) ↦ quiet_same unpin_by (shard_pass old j) (shard_pass new j) c r also got ]);

@@ -19,7 +19,7 @@ use Rattle.warm_concurrent.specs.Clauses.{AnsweredByShard}
 use Rattle.warm_concurrent.specs.Visiting.{EntersByTurn, GoesByTurns, Visiting, visiting}
 use Rattle.warm_concurrent.proofs.EntryLemmas.{not_both}
 use Rattle.warm_concurrent.proofs.GivenLemmas.{EachGives, Gives, given_as, gives_as, gives_called, gives_none}
-use Rattle.warm_concurrent.proofs.WholeCallLemmas.{none_first, one_first, same_first}
+use Rattle.warm_shards.proofs.FirstLemmas.{none_first, one_first, same_first}
 
 -- ---- refusals
 
@@ -147,7 +147,7 @@ module _ (old : List ShardPass) (S : ReferenceSet) where
     | inl none ↦
         let nothing : PartGave j ≡ set_of_list [] = ap (part_gave (part_of j)) none in
         parts_from n (j + 1) k s t es (omega (arith, long)) (plan ∙ give_past (length old) part_of j (omega (arith, long)) none)
-        (same_first (λ i. Gives (PartGave i)) j old s.passes so (gives_as (set_of_list []) (PartGave j) (shard_pass s.passes j) (shard_pass s.passes j) (sym nothing) (gives_none (shard_pass s.passes j) (shard_pass s.passes j) refl))) runs well ends
+        (same_first (λ i. Gives (PartGave i)) j old s.passes (omega (arith, long)) so (gives_as (set_of_list []) (PartGave j) (shard_pass s.passes j) (shard_pass s.passes j) (sym nothing) (gives_none (shard_pass s.passes j) (shard_pass s.passes j) refl))) runs well ends
     | inr some ↦
         parts_here j k s t es (omega (arith, long)) (plan ∙ give_here (length old) part_of j (omega (arith, long)) some) (part_some (part_of j) (part_of j).given some) so
         (λ y es more plan runs. parts_from n (j + 1) k y t es (omega (arith, long)) plan more runs well ends) runs well ends

@@ -1,16 +1,16 @@
 -- The horizon that shards have together, once each forgot all stamps before a time.
 use Rattle.std.specs.Prelude.{◌≡◌, ℕ, List, [], ◌∷◌, length, max, slice_index_or}
+use Rattle.warm_shards.specs.EachShard.{First}
 use Rattle.warm_shard_machine.specs.declared.calls.ShardCall.TheVariants.{Raise}
 use Rattle.warm_shard_machine.specs.declared.calls.ShardReply.TheVariants.{Kept}
-use Rattle.warm_concurrent.specs.Attached.{ShardPass}
+use Rattle.warm_concurrent.specs.Attached.{ShardPass, no_pass}
 use Rattle.warm_concurrent.specs.Clauses.{Got}
-use Rattle.warm_concurrent.specs.Whole.{First}
 
 -- Each shard below k gave the item at its place, and no other turn was entered.
 abbrev pub FirstGave : {T : Type 0} → (T → ℕ → ShardPass → ShardPass → Type 0) → T → List T → ℕ
     → List ShardPass → List ShardPass → Type 0
 FirstGave So none given k old new = (length given ≡ k)
-    × First (λ i. So (slice_index_or given i none) i) k old new
+    × First no_pass (λ i. So (slice_index_or given i none) i) k old new
 
 -- the latest of these times
 abbrev pub latest_in : List ℕ → ℕ

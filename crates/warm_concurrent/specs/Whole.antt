@@ -1,5 +1,6 @@
 -- Calls of the whole: shard by shard, in the order of their numbers.
-use Rattle.std.specs.Prelude.{◌≡◌, ℕ, ◌<◌, ◌≤◌, List, length}
+use Rattle.std.specs.Prelude.{ℕ, ◌<◌, List, length}
+use Rattle.warm_shards.specs.EachShard.{First}
 use Rattle.warm_shard_machine.specs.declared.calls.ShardCall.TheVariants.{Raise, WritePages}
 use Rattle.warm_shard_machine.specs.declared.calls.ShardCall.TheVariants.{WriteBack}
 use Rattle.warm_shard_machine.specs.declared.calls.ShardCall.{ShardCall}
@@ -7,15 +8,8 @@ use Rattle.warm_shard_machine.specs.declared.calls.ShardReply.TheVariants.{Done,
 use Rattle.warm_concurrent.specs.declared.fault.SharedFault.{SharedFault}
 use Rattle.warm_concurrent.specs.declared.writing.NotWritten.{NotWritten}
 use Rattle.warm_concurrent.specs.declared.writing.NotWritten.TheVariants.{Pages, Devices}
-use Rattle.warm_concurrent.specs.Attached.{ShardPass, shard_pass}
+use Rattle.warm_concurrent.specs.Attached.{ShardPass, no_pass}
 use Rattle.warm_concurrent.specs.Clauses.{CallFails, Got}
-
--- `So` holds of each shard below k, before and after. The passes of the others are unchanged.
-pub record First (So : ℕ → ShardPass → ShardPass → Type 0) (k : ℕ) (old new : List ShardPass)
-    : Type 0 where
-  pub count : length new ≡ length old
-  pub first : (i : ℕ) → i < k → So i (shard_pass old i) (shard_pass new i)
-  pub others : (i : ℕ) → k ≤ i → shard_pass new i ≡ shard_pass old i
 
 -- a shard forgot all stamps before this time
 abbrev pub RaisesShard : ℕ → ℕ → ShardPass → ShardPass → Type 0
@@ -23,7 +17,7 @@ RaisesShard time i old new = (horizon : ℕ) × Got old.view (Raise time) (Kept 
 
 -- the shards below k forgot all stamps before this time, and no other turn was entered
 abbrev pub RaisesFirst : ℕ → ℕ → List ShardPass → List ShardPass → Type 0
-RaisesFirst time k old new = First (RaisesShard time) k old new
+RaisesFirst time k old new = First no_pass (RaisesShard time) k old new
 
 -- the shards below k forgot all stamps before this time, and the shard k found no ticket
 abbrev pub RaiseFails : ℕ → ℕ → SharedFault → List ShardPass → List ShardPass → Type 0
@@ -38,7 +32,7 @@ Does call i old new = Got old.view call Done new.view
 
 -- the shards below k made this call, and no other turn was entered
 abbrev pub DoneFirst : ShardCall → ℕ → List ShardPass → List ShardPass → Type 0
-DoneFirst call k old new = First (Does call) k old new
+DoneFirst call k old new = First no_pass (Does call) k old new
 
 -- the shards below k made this call, and the shard k refused it or found no ticket
 abbrev pub DoneFails : ShardCall → ℕ → SharedFault → List ShardPass → List ShardPass → Type 0

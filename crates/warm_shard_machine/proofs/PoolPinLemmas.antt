@@ -10,11 +10,11 @@ use Rattle.warm_frame_table.specs.FrameSteps.{vacated}
 use Rattle.warm_frame_table.specs.Selection.{is_from, is_on}
 use Rattle.warm_frame_table.proofs.ListLemmas.{at_set}
 use Rattle.warm_pool.specs.declared.fault.PoolFault.{PoolFault}
-use Rattle.warm_pool.specs.declared.fault.PoolFault.TheVariants.{NoDevice, NoPage, AllFixed, ReadFault, WriteBack, FixesFull, OutOfPage, Fixed, Fault, SizeDiffers}
+use Rattle.warm_pool.specs.declared.fault.PoolFault.TheVariants.{NoDevice, NoPage, AllFixed, ReadFault, WriteBack, FixesFull, OutOfPage, Fixed, Fault}
 use Rattle.warm_pool.specs.declared.slot.Slot.{Slot}
 use Rattle.warm_pool.specs.Forgetting.{Forgets}
 use Rattle.warm_pool.specs.Pinning.{AddsFix, LoadRefused, Pinned as PinnedIn, PinRefused, PutRefused, PutsIn, unpinned}
-use Rattle.warm_pool.specs.Retiring.{RetireRefused, Retired, emptied}
+use Rattle.warm_pool.specs.Retiring.{Retired, emptied}
 use Rattle.warm_pool.specs.State.{IsPool, PoolState}
 use Rattle.warm_pool.specs.View.{FrameView, Holds, PoolView, frame_at, frame_view, view_of}
 use Rattle.warm_pool.specs.Zeroing.{PinnedZeroed}
@@ -27,10 +27,8 @@ use Rattle.warm_gossip.specs.declared.fault.NodeFault.{NodeFault}
 use Rattle.warm_gossip.specs.declared.fault.NodeFault.TheVariants.{Memory, Pool, StaleSlot}
 use Rattle.warm_gossip.specs.State.{NodeView}
 use Rattle.warm_gossip.specs.Step.{Refuses, Step}
+use Rattle.warm_gossip.proofs.VictimLemmas.{no_frame}
 use Rattle.warm_shard_machine.specs.Pins.{pins_in}
-
-abbrev no_frame : FrameView
-no_frame = record { page = None; generation = 0; fixes = 0 }
 
 -- no frame without a page is pinned
 abbrev AreFree : List FrameView → Type 0
@@ -250,14 +248,6 @@ pub retired_moves : (v w : PoolView) (dev : ℕ) (device : DeviceState) → Reti
     → IsFree v → Moves 0 0 v w
 retired_moves v w dev device retired free =
     gone_moves (λ f. is_on dev f.page) v w retired.may.unfixed (ap (λ (x : PoolView). x.frames) retired.becomes) free
-
-pub retire_refused : (v w : PoolView) (dev : ℕ) (device : DeviceState) (why : PoolFault)
-    → RetireRefused v dev device why w → w.frames ≡ v.frames
-retire_refused v w dev device NoDevice refused = same_view v w refused.1
-retire_refused v w dev device SizeDiffers refused = same_view v w refused.2
-retire_refused v w dev device Fixed refused = same_view v w refused.3
-retire_refused v w dev device Fault refused = ap (λ (x : PoolView). x.frames) refused.1.becomes
-retire_refused v w dev device why refused = absurd refused
 
 -- frames are vacated as a caller sees them emptied
 vacated_seen : (gone : Option PageId → Bool) (fs : List FrameState)

@@ -2,13 +2,11 @@
 use Rattle.std.proofs.Common.{◌≡◌, ℕ, ◌+◌, List, [], ◌∷◌, map, Option, Some, None, refl, sym, ap, subst, arith}
 use Rattle.std.proofs.lemmas.List.Sums.{sum_by-cons}
 use Rattle.warm_stamps.specs.declared.PageId.{PageId}
-use Rattle.warm_pool.specs.declared.fault.PoolFault.{PoolFault}
-use Rattle.warm_pool.specs.declared.fault.PoolFault.TheVariants.{Fault, NoDevice, SizeDiffers}
+use Rattle.warm_pool.specs.declared.fault.PoolFault.TheVariants.{SizeDiffers}
 use Rattle.warm_frame_table.specs.Frames.{FrameState}
 use Rattle.warm_pool.specs.Outcomes.{WritePageFails}
 use Rattle.warm_pool.specs.State.{PoolState}
 use Rattle.warm_pool.specs.View.{PoolView, frame_view, view_of}
-use Rattle.warm_pool.specs.WritingSome.{FlushRefused}
 use Rattle.warm_gossip.specs.declared.call.Call.{Call}
 use Rattle.warm_gossip.specs.declared.call.Call.TheVariants as node_call
 use Rattle.warm_gossip.specs.declared.call.Reply.{Reply}
@@ -27,7 +25,8 @@ use Rattle.warm_shard_machine.specs.Pins.{LeadsTo, PinsAreGiven, pin_by, pool_pi
 use Rattle.warm_shard_machine.specs.ShardSteps.{CallGoes, NodeGoes, ShardState, ShardStep, asked_of, node_reply_of}
 use Rattle.warm_shard_machine.proofs.EnteringLemmas.{entered_pool}
 use Rattle.warm_shard_machine.proofs.ShardStepLemmas.{goes_as, unforgotten}
-use Rattle.warm_shard_machine.proofs.PoolPinLemmas.{IsCalm, IsFree, Moves, calm_same, forgotten_moves, pin_moves, pool_free, refused_same, retire_refused, retired_moves, same_moves, then_same, unpin_moves, warm_moves, zeroed_moves}
+use Rattle.warm_shards.proofs.EngineCalls.{unflushed_frames, unretired_frames}
+use Rattle.warm_shard_machine.proofs.PoolPinLemmas.{IsCalm, IsFree, Moves, calm_same, forgotten_moves, pin_moves, pool_free, refused_same, retired_moves, same_moves, then_same, unpin_moves, warm_moves, zeroed_moves}
 
 -- the pins of a node's pool changed so
 abbrev NodeMoves : ℕ → ℕ → NodeState → NodeState → Type 0
@@ -56,12 +55,6 @@ unwritten : (s t : PoolState) (p : PageId) (why : NodeFault)
 unwritten s t p (Pool why) failed = ap (λ (fs : List FrameState). map frame_view fs) failed.cause.1.frames
 unwritten s t p Memory failed = absurd failed
 unwritten s t p StaleSlot failed = absurd failed
-
-unflushed : (s t : PoolState) (dev : ℕ) (fault : PoolFault) → FlushRefused s dev fault t
-    → (view_of t).frames ≡ (view_of s).frames
-unflushed s t dev NoDevice refused = ap (λ (x : PoolState). (view_of x).frames) refused.1
-unflushed s t dev Fault refused = ap (λ (v : PoolView). v.frames) refused.1.becomes
-unflushed s t dev _ refused = absurd refused
 
 -- a call that does nothing with pins
 calm : (n m : NodeState) (call : Call) (k : Option Reply) → IsCalm call → IsFree (view_of n.pool)
@@ -125,7 +118,7 @@ goes_moves n m (WritePage p) (Refused why) free step = stays n m free (unwritten
 goes_moves n m (WritePage p) r free step = absurd step
 goes_moves n m (FlushDevice dev) Done free step = stays n m free (ap (λ (v : PoolView). v.frames) step.1.same)
 goes_moves n m (FlushDevice dev) (Refused (Pool fault)) free step =
-    stays n m free (unflushed n.pool m.pool dev fault step.1.cause)
+    stays n m free (unflushed_frames n.pool m.pool dev fault step.1.cause)
 goes_moves n m (FlushDevice dev) (Refused why) free step = absurd step.1
 goes_moves n m (FlushDevice dev) r free step = absurd step
 goes_moves n m WriteBack Done free step = stays n m free (unseen n m step.0)
@@ -138,7 +131,7 @@ goes_moves n m (ForgetPages dev from) r free step = absurd step
 goes_moves n m (Retire dev told) (Replaced given) free step =
     retired_moves (view_of n.pool) (view_of m.pool) dev step.0 step.5.retires.retired free
 goes_moves n m (Retire dev told) (Refused (Pool fault)) free step =
-    stays n m free (retire_refused (view_of n.pool) (view_of m.pool) dev step.0 fault step.3.cause)
+    stays n m free (unretired_frames (view_of n.pool) (view_of m.pool) dev step.0 fault step.3.cause)
 goes_moves n m (Retire dev told) (Refused Memory) free step = stays n m free (unmoved n m step)
 goes_moves n m (Retire dev told) r free step = absurd step
 goes_moves n m (Enter count number v) (Entered w) free step =

@@ -1,6 +1,6 @@
 -- What all shards together answer, send and offer.
-use Rattle.std.proofs.Common.{◌≡◌, ℕ, ◌+◌, ◌<◌, ◌%◌, List, length, get_or, Option, Result, Ok, Err, refl, sym, ap, subst, ◌∙◌, arith, ◌≤◌, Bool, true, false}
-use Rattle.std.specs.Prelude.{◌↔◌, IsTrue, IfOk, nat_lt}
+use Rattle.std.proofs.Common.{◌≡◌, inl, inr, ℕ, ◌+◌, ◌<◌, ◌%◌, List, length, get_or, Option, Result, Ok, Err, refl, sym, ap, subst, ◌∙◌, arith, ◌≤◌, Bool, true, false}
+use Rattle.std.specs.Prelude.{◌↔◌, IsTrue, IfOk}
 use Rattle.warm_stamps.specs.declared.PageId.{PageId}
 use Rattle.warm_history.specs.Histories.{HistoryView, entries_of, history, references_of}
 use Rattle.warm_history.specs.Since.{carried_since}
@@ -29,7 +29,7 @@ use Rattle.warm_shards.proofs.Buckets.{sent_since_whole, since_whole, sent_whole
 use Rattle.warm_visits.proofs.PartEntryLemmas.{since_entries}
 use Rattle.warm_shards.proofs.Calls.{read_at, same_histories, same_ids, same_whole}
 use Rattle.warm_shards.proofs.DigestLemmas.{AreGathered, digest_whole, gathered_more}
-use Rattle.std.proofs.lemmas.Bool.{ltb-false, ltb-true}
+use Rattle.std.proofs.lemmas.Bool.{cases_lt}
 
 -- ---- shard by shard, and a caller sees no change
 
@@ -160,8 +160,7 @@ first_horizon ns n d are at =
     ap (λ (x : NodeState). x.history.horizon) (read_at ns 0 n d some at) ∙ shard_horizon ns 0 are some some
 
 pub not_later : (b : Bool) (w t : ℕ) → b ≡ false → (w < t → b ≡ true) → t ≤ w
-not_later b w t isnt less = cases (nat_lt w t) refl
-  where
-    cases : (l : Bool) → nat_lt w t ≡ l → t ≤ w
-    cases false over = ltb-false w t over
-    cases true below = let wrong : false ≡ true = sym isnt ∙ less (ltb-true w t below) in absurd (cc)
+not_later b w t isnt less = elim (cases_lt w t) [
+  | inl below ↦ let wrong : false ≡ true = sym isnt ∙ less below in absurd (cc)
+  | inr over ↦ over
+]

@@ -1,5 +1,5 @@
 -- A shard changes: all are still shards.
-use Rattle.std.proofs.Common.{◌≡◌, ◌≢◌, ℕ, ◌<◌, List, [], length, set, Some, sym, ap, subst, ◌∙◌, arith}
+use Rattle.std.proofs.Common.{◌≡◌, ℕ, ◌<◌, List, [], length, set, Some, sym, ap, subst, ◌∙◌, arith}
 use Rattle.std.specs.List.{AllByRecursion}
 use Rattle.std.proofs.lemmas.List.{length-set}
 use Rattle.warm_stamps.specs.declared.PageId.{PageId}
@@ -8,14 +8,8 @@ use Rattle.warm_pool.specs.View.{frame_at, view_of}
 use Rattle.warm_gossip.specs.State.{NodeState}
 use Rattle.warm_shards.specs.Shards.{AreShards, IsShard, no_shard, shard_at}
 use Rattle.warm_visits.specs.ShardNumbers.{IsShardCount, shard_of}
-use Rattle.warm_shards.proofs.Places.{at_each as changed_at}
+use Rattle.warm_frame_table.proofs.ListLemmas.{at_set}
 use Rattle.warm_visits.proofs.ErrandLemmas.{some_count}
-
--- what is true of the new shard and of the others is true of each
-pub at_each : (P : ℕ → NodeState → Type 0) (ns : List NodeState) (i : ℕ) (m : NodeState)
-    → i < length ns → P i m → ((k : ℕ) → k ≢ i → P k (shard_at ns k)) → (k : ℕ)
-    → P k (shard_at (set ns i m) k)
-at_each P ns i m lt new old k = changed_at P ns i m no_shard lt new old k
 
 -- if each is a shard, and all have one id and one horizon, they are the shards of a replica
 pub all_shards : (number latest : ℕ) (ns : List NodeState) → IsShardCount (length ns) → 0 < length ns
@@ -36,7 +30,7 @@ still_shards ns i m are lt new =
     let number = (shard_at ns 0).id in
     let latest = (shard_at ns 0).history.horizon in
     let long : length (set ns i m) ≡ length ns = length-set ns i m in
-    let shard : (k : ℕ) → k < length ns → IsShard (length ns) number latest k (shard_at (set ns i m) k) = at_each (λ k n. k < length ns → IsShard (length ns) number latest k n) ns i m lt (λ less. new) (λ k other less. are.each k less) in
+    let shard : (k : ℕ) → k < length ns → IsShard (length ns) number latest k (shard_at (set ns i m) k) = at_set no_shard (λ k n. k < length ns → IsShard (length ns) number latest k n) ns i m lt (λ less. new) (λ k other less. are.each k less) in
     all_shards number latest (set ns i m) (rw long are.count) (omega arith) (λ k less. subst (λ c. IsShard c number latest k (shard_at (set ns i m) k)) (sym long) (shard k (omega arith)))
 
 pub some_shards : (ns : List NodeState) → AreShards ns → 0 < length ns

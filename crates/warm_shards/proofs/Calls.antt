@@ -13,7 +13,6 @@ use Rattle.warm_history.proofs.HistoryLemmas.{IsHistory-history, horizon-history
 use Rattle.warm_rank.specs.Ranking.{eviction_cmp, hottest_pages}
 use Rattle.warm_rank.proofs.EvictionLemmas.{eviction_order}
 use Rattle.warm_pool.specs.Unchanged.{KeepsBytes}
-use Rattle.warm_pool.specs.State.{PoolState}
 use Rattle.warm_pool.specs.View.{FrameView, PoolView, frame_at, view_of}
 use Rattle.warm_gossip.specs.Brings.{BringsOnly}
 use Rattle.warm_gossip.specs.Engine.{KeepsKnown}
@@ -23,39 +22,34 @@ use Rattle.warm_gossip.proofs.VictimLemmas.{no_frame}
 use Rattle.warm_shards.specs.Clauses.{KeepPools, SameShards}
 use Rattle.warm_shards.specs.Shards.{AreShards, HasPagesOf, HoldsPagesOf, IsShard, held, no_shard, shard_at, whole}
 use Rattle.warm_visits.specs.ShardNumbers.{shard_of}
-use Rattle.warm_shards.proofs.AreShardsLemmas.{at_each, each_still, some_shards}
+use Rattle.warm_shards.proofs.AreShardsLemmas.{each_still, some_shards}
+use Rattle.warm_frame_table.proofs.ListLemmas.{at_set}
 use Rattle.warm_shards.proofs.Places.{read_at as at_place}
-use Rattle.warm_shards.proofs.Pages.{all_held, all_pages, all_taken, each_has}
-use Rattle.warm_visits.proofs.GivenLemmas.{bytes_same}
+use Rattle.warm_shards.proofs.Pages.{all_held, all_pages, all_taken}
+use Rattle.warm_rank.proofs.OutrankedLemmas.{all_has}
+use Rattle.warm_pool.proofs.UnchangedLemmas.{more_bytes, same_bytes}
 
 -- ---- pools that stay
-
-pub bytes_after : (a b c : PoolState) → KeepsBytes a b → KeepsBytes b c → KeepsBytes a c
-bytes_after a b c x y = record {
-  devices = y.devices ∙ x.devices;
-  bytes = λ k. y.bytes k ∙ x.bytes k;
-  dirty = λ k. y.dirty k ∙ x.dirty k;
-}
 
 pub keep_then : (a b c : List NodeState) → KeepPools a b → KeepPools b c → KeepPools a c
 keep_then a b c x y = record {
   count = y.count ∙ x.count;
   views = λ i. y.views i ∙ x.views i;
-  bytes = λ i. bytes_after (shard_at a i).pool (shard_at b i).pool (shard_at c i).pool (x.bytes i) (y.bytes i);
+  bytes = λ i. more_bytes (shard_at a i).pool (shard_at b i).pool (shard_at c i).pool (x.bytes i) (y.bytes i);
 }
 
 -- ---- shards that a caller sees as before
 
 pub same_none : (ns : List NodeState) → SameShards ns ns
-same_none ns = record { count = refl; views = λ i. refl; bytes = λ i. bytes_same (shard_at ns i).pool }
+same_none ns = record { count = refl; views = λ i. refl; bytes = λ i. same_bytes (shard_at ns i).pool }
 
 pub same_one : (old ns : List NodeState) (i : ℕ) (m : NodeState) → i < length ns
     → SameShards old ns → node_view m ≡ node_view (shard_at ns i)
     → KeepsBytes (shard_at ns i).pool m.pool → SameShards old (set ns i m)
 same_one old ns i m lt same view bytes = record {
   count = length-set ns i m ∙ same.count;
-  views = at_each (λ k n. node_view n ≡ node_view (shard_at old k)) ns i m lt (view ∙ same.views i) (λ k other. same.views k);
-  bytes = at_each (λ k n. KeepsBytes (shard_at old k).pool n.pool) ns i m lt (bytes_after (shard_at old i).pool (shard_at ns i).pool m.pool (same.bytes i) bytes) (λ k other. same.bytes k);
+  views = at_set no_shard (λ k n. node_view n ≡ node_view (shard_at old k)) ns i m lt (view ∙ same.views i) (λ k other. same.views k);
+  bytes = at_set no_shard (λ k n. KeepsBytes (shard_at old k).pool n.pool) ns i m lt (more_bytes (shard_at old i).pool (shard_at ns i).pool m.pool (same.bytes i) bytes) (λ k other. same.bytes k);
 }
 
 pub same_keeps : (old new : List NodeState) → SameShards old new → KeepPools old new
@@ -173,7 +167,7 @@ next_is_own count i n p old next =
     let falls = flip_args (eviction_cmp R) in
     let order = IsStrictOrder-flip (eviction_cmp R) (eviction_order R) in
     let named : AllByRecursion own (pages R) = all_pages own R (all_held own (entries_of n.history) old.known) in
-    let all : AllByRecursion own (distinct falls (pages R)) = all_of_has own (distinct falls (pages R)) (λ q has. each_has own (pages R) q named (has_from_distinct falls order (pages R) q has)) in
+    let all : AllByRecursion own (distinct falls (pages R)) = all_of_has own (distinct falls (pages R)) (λ q has. all_has own (pages R) q named (has_from_distinct falls order (pages R) q has)) in
     let hottest = hottest_pages R (length n.pool.frames) in
     subst own next.2 (each_nth own hottest next.0 (all_take own (length n.pool.frames) (distinct falls (pages R)) all) next.1)
 

@@ -1,14 +1,15 @@
 -- Calls that go to each shard, from the first on.
-use Rattle.std.proofs.Common.{◌≡◌, ◌≢◌, inl, inr, ℕ, zero, suc, ◌+◌, ◌<◌, ◌≤◌, Bool, true, false, List, [], ◌∷◌, ◌++◌, length, map, max, set, get_or, take, drop, Option, Some, None, Result, Ok, Err, refl, sym, ap, subst, ◌∙◌, arith}
-use Rattle.std.specs.Prelude.{nat_eq, nat_lt, IfErr, IsTrue, OnOk}
+use Rattle.std.proofs.Common.{◌≡◌, inl, inr, ℕ, zero, suc, ◌<◌, ◌≤◌, false, List, [], ◌∷◌, ◌++◌, length, map, set, get_or, drop, Option, Some, None, Result, Ok, Err, refl, sym, ap, subst, ◌∙◌, arith}
+use Rattle.std.specs.Prelude.{IfErr, IsTrue, OnOk}
 use Rattle.std.proofs.Math.Dec.{leb-zero}
+use Rattle.std.proofs.Math.Nat.{zero-max}
 use Rattle.std.proofs.Math.ListN.{get_or-map as mapped}
-use Rattle.std.proofs.lemmas.Bool.{eq-eqb, eqb-false, eqb-true, ltb-false, ltb-true}
+use Rattle.std.proofs.lemmas.Bool.{cases_eq, cases_lt, eq-eqb}
 use Rattle.std.proofs.lemmas.List.{append-nil, drop_all, get_or-set_same, length-set, take_all}
 use Rattle.warm_stamps.specs.declared.PageId.{PageId}
 use Rattle.warm_history.specs.ReferenceSets.{set_of_list, with_horizon, ◌∪◌}
 use Rattle.warm_history.specs.Histories.{HistoryView, history, history_of_entries, history_of_entries_at, references_of}
-use Rattle.warm_frame_table.specs.Frames.{FrameState, fresh_frame, nth_frame, dirty_count}
+use Rattle.warm_frame_table.specs.Frames.{FrameState, fresh_frame, nth_frame}
 use Rattle.warm_frame_table.specs.FrameSteps.{cleaned}
 use Rattle.warm_frame_table.specs.Selection.{is_from}
 use Rattle.warm_frame_table.proofs.CountLemmas.{count_most}
@@ -33,7 +34,8 @@ use Rattle.warm_shards.specs.EachShard.{ShardsAreUnfixed, StopsAtShard, WriteBac
 use Rattle.warm_shards.proofs.Buckets.{shard_horizon}
 use Rattle.warm_shards.proofs.Calls.{alone_known, known_shard, read_at, same_shard}
 use Rattle.warm_shards.proofs.EngineCalls.{forgotten_own, frames_shard}
-use Rattle.warm_shards.proofs.AreShardsLemmas.{at_each, each_still, empty_shard, some_shards}
+use Rattle.warm_shards.proofs.AreShardsLemmas.{each_still, empty_shard, some_shards}
+use Rattle.warm_frame_table.proofs.ListLemmas.{at_set}
 use Rattle.warm_shards.proofs.WholeLemmas.{none_joined}
 
 abbrev pub Change : Type 1
@@ -41,24 +43,10 @@ Change = NodeState → NodeState → Type 0
 
 -- ---- one shard after the other
 
-pub none_gone : (change : Change) (old : List NodeState) → OfFirst change 0 old old
-none_gone change old = record { count = refl; first = λ i lt. absurd (omega arith); rest = λ i le. refl }
-
 -- the shard that is read is as it was
 pub was_left : (change : Change) (old ns : List NodeState) (k : ℕ) (n d : NodeState) → k < length ns
     → n ≡ get_or ns k d → OfFirst change k old ns → n ≡ shard_at old k
-was_left change old ns k n d lt at have = read_at ns k n d lt at ∙ have.rest k (omega arith)
-
-pub gone_more : (change : Change) (old ns : List NodeState) (k : ℕ) (n m d : NodeState)
-    → k < length ns → n ≡ get_or ns k d → change n m → OfFirst change k old ns
-    → OfFirst change (k + 1) old (set ns k m)
-gone_more change old ns k n m d lt at new have =
-    let here : n ≡ shard_at old k = was_left change old ns k n d lt at have in
-    record {
-      count = length-set ns k m ∙ have.count;
-      first = at_each (λ i x. i < k + 1 → change (shard_at old i) x) ns k m lt (λ less. subst (λ x. change x m) here new) (λ i other less. have.first i (omega arith));
-      rest = at_each (λ i x. k + 1 ≤ i → x ≡ shard_at old i) ns k m lt (λ le. absurd (omega arith)) (λ i other le. have.rest i (omega arith));
-    }
+was_left change old ns k n d lt at have = read_at ns k n d lt at ∙ have.others k (omega arith)
 
 pub gone_all : (change : Change) (old ns : List NodeState) (k : ℕ) → length old ≤ k
     → OfFirst change k old ns → OfEach change old ns
@@ -73,9 +61,9 @@ gone_stops change fails old ns k n m d lt at new have =
       count = length-set ns k m ∙ have.count;
       shard = k;
       there = omega (arith, have.count);
-      before = at_each (λ i x. i < k → change (shard_at old i) x) ns k m lt (λ less. absurd (omega arith)) (λ i other less. have.first i less);
+      before = at_set no_shard (λ i x. i < k → change (shard_at old i) x) ns k m lt (λ less. absurd (omega arith)) (λ i other less. have.first i less);
       at = subst (λ x. fails (shard_at old k) x) (sym (get_or-set_same ns k m no_shard lt)) (subst (λ x. fails x m) here new);
-      after = at_each (λ i x. k < i → i < length old → x ≡ shard_at old i) ns k m lt (λ less. absurd (omega arith)) (λ i other less low. have.rest i (omega arith));
+      after = at_set no_shard (λ i x. k < i → i < length old → x ≡ shard_at old i) ns k m lt (λ less. absurd (omega arith)) (λ i other less low. have.others i (omega arith));
     }
 
 -- ---- one call after another
@@ -114,28 +102,19 @@ pub each_shards : (later : ℕ) (change : Change) (old new : List NodeState)
 each_shards later change old new stays are have =
     each_still later old new have.count are (λ i lt was. stays (length old) (shard_at old 0).id i (shard_at old i) (shard_at new i) was (have.each i lt))
 
-above : (i k : ℕ) → k ≤ i → i ≢ k → k < i
-above i k le other = omega (arith, le, other)
-
 pub stops_shards : (done fails left : Change) (old new : List NodeState)
     → StaysShard (shard_at old 0).history.horizon (shard_at old 0).history.horizon done
     → StaysShard (shard_at old 0).history.horizon (shard_at old 0).history.horizon fails
     → StaysShard (shard_at old 0).history.horizon (shard_at old 0).history.horizon left
     → AreShards old → StopsAtShard done fails left old new → AreShards new
 stops_shards done fails left old new one two three are have =
-    each_still (shard_at old 0).history.horizon old new have.count are (λ i lt was. cases i lt was (nat_eq i have.shard) refl (nat_lt i have.shard) refl)
-  where
-    cases : (i : ℕ) → i < length old → IsShard (length old) (shard_at old 0).id (shard_at old 0).history.horizon i (shard_at old i)
-        → (b : Bool) → nat_eq i have.shard ≡ b → (l : Bool) → nat_lt i have.shard ≡ l
-        → IsShard (length old) (shard_at old 0).id (shard_at old 0).history.horizon i (shard_at new i)
-    cases i lt was true is l less =
-        let same : i ≡ have.shard = eqb-true i have.shard is in
-        two (length old) (shard_at old 0).id i (shard_at old i) (shard_at new i) was (subst (λ x. fails (shard_at old x) (shard_at new x)) (sym same) have.at)
-    cases i lt was false is true less =
-        one (length old) (shard_at old 0).id i (shard_at old i) (shard_at new i) was (have.before i (ltb-true i have.shard less))
-    cases i lt was false is false less =
-        let over : have.shard ≤ i = ltb-false i have.shard less in
-        three (length old) (shard_at old 0).id i (shard_at old i) (shard_at new i) was (have.after i (above i have.shard over (eqb-false i have.shard is)) lt)
+    each_still (shard_at old 0).history.horizon old new have.count are (λ i lt was. elim (cases_eq i have.shard) [
+      | inl same ↦ two (length old) (shard_at old 0).id i (shard_at old i) (shard_at new i) was (subst (λ x. fails (shard_at old x) (shard_at new x)) (sym same) have.at)
+      | inr other ↦ elim (cases_lt i have.shard) [
+        | inl less ↦ one (length old) (shard_at old 0).id i (shard_at old i) (shard_at new i) was (have.before i less)
+        | inr over ↦ three (length old) (shard_at old 0).id i (shard_at old i) (shard_at new i) was (have.after i (omega (arith, over, other)) lt)
+      ]
+    ])
 
 pub unchanged_stays : (latest : ℕ) → StaysShard latest latest IsUnchanged
 unchanged_stays latest count number i n m was same = subst (IsShard count number latest i) (sym same) was
@@ -174,20 +153,12 @@ clean_all frames n over =
 pub all_written : (limit : ℕ) (s t : PoolState) → limit ≡ length s.frames → CleansFirst limit s t
     → IsClean t
 all_written limit s t is cleans i =
-    let most : dirty_count (take cleans.upto s.frames) ≤ cleans.upto = count_most cleans.upto s.frames in
-    let over : length s.frames ≤ cleans.upto = no_less cleans.upto most in
+    let few = count_most cleans.upto s.frames in
+    let over : length s.frames ≤ cleans.upto = elim (cases_lt cleans.upto (length s.frames)) [
+      | inl less ↦ let spent = cleans.whole less in absurd (omega (arith, less, spent, few, is))
+      | inr more ↦ more
+    ] in
     ap (λ (fs : List FrameState). (nth_frame fs i).dirty) (cleans.down.becomes ∙ clean_all s.frames cleans.upto over) ∙ all_cleaned s.frames i
-  where
-    no_less : (n : ℕ) → dirty_count (take n s.frames) ≤ n → length s.frames ≤ cleans.upto
-    no_less n most = cases (nat_lt cleans.upto (length s.frames)) refl
-      where
-        cases : (b : Bool) → nat_lt cleans.upto (length s.frames) ≡ b → length s.frames ≤ cleans.upto
-        cases false more = ltb-false cleans.upto (length s.frames) more
-        cases true less =
-            let below = ltb-true cleans.upto (length s.frames) less in
-            let spent = cleans.whole below in
-            let few = count_most cleans.upto s.frames in
-            absurd (omega (arith, below, spent, few, is))
 
 pub written_then : (a b c : NodeState) → IsWritten a b → ShardSettles b c → ShardSettles a c
 written_then a b c x y = (y.0 ∙ x.0, y.1)
@@ -245,10 +216,7 @@ settled_unfixed old mid settles unfixed i lt =
 no_references : (horizon : ℕ)
     → history (with_horizon horizon (references_of (history_of_entries []))) ≡ history_of_entries_at horizon []
 unfolding history
-no_references horizon = ap (λ (h : ℕ). history_of_entries_at h []) (later horizon)
-  where
-    later : (n : ℕ) → max 0 n ≡ n
-    later n = omega arith
+no_references horizon = ap (λ (h : ℕ). history_of_entries_at h []) (zero-max horizon)
 
 -- a shard that restarted, and was then raised
 pub rises_after : (horizon : ℕ) (a b c : NodeState) → ShardRestarts a b → Rises horizon b c
@@ -275,8 +243,8 @@ stops_risen horizon fails old mid new k stops is risen = record {
   shard = stops.shard;
   there = stops.there;
   before = λ i less. rises_after horizon (shard_at old i) (shard_at mid i) (shard_at new i) (stops.before i less) (risen.first i (omega (arith, is)));
-  at = subst (λ n. fails (shard_at old stops.shard) n) (sym (risen.rest stops.shard (omega (arith, is)))) stops.at;
-  after = λ i less low. risen.rest i (omega (arith, is)) ∙ stops.after i less low;
+  at = subst (λ n. fails (shard_at old stops.shard) n) (sym (risen.others stops.shard (omega (arith, is)))) stops.at;
+  after = λ i less low. risen.others i (omega (arith, is)) ∙ stops.after i less low;
 }
 
 pub fails_risen : (horizon : ℕ) (fails : Change) (old ns new : List NodeState) (k : ℕ)

@@ -78,7 +78,7 @@ pub page_frames : (page : PageId) (n m : NodeState) (result : Result Bool NodeFa
 page_frames page n m result asked =
     either_asked (WritesPageBack page) (WritePageFails page) n result m asked (λ was_dirty done. ap (λ (x : PoolView). x.frames) done.same) (λ why fails. ap (λ (x : PoolView). x.frames) fails.cause.1.fails.becomes)
 
-unflushed_frames : (s t : PoolState) (dev : ℕ) (why : PoolFault) → FlushRefused s dev why t
+pub unflushed_frames : (s t : PoolState) (dev : ℕ) (why : PoolFault) → FlushRefused s dev why t
     → SameFrames s t
 unflushed_frames s t dev NoDevice refused = ap (λ (x : PoolState). (view_of x).frames) refused.1
 unflushed_frames s t dev Fault refused = ap (λ (x : PoolView). x.frames) refused.1.becomes

@@ -1,8 +1,8 @@
 -- If each shard is given its part of a set of references, all together are given the set.
-use Rattle.std.proofs.Common.{◌≡◌, ◌⊎◌, inl, inr, ℕ, zero, suc, ◌+◌, ◌<◌, ◌≤◌, Bool, true, false, List, [], ◌∷◌, length, max, set, get_or, Result, Ok, Err, refl, sym, ap, subst, ◌∙◌, arith}
+use Rattle.std.proofs.Common.{◌≡◌, ◌⊎◌, inl, inr, ℕ, zero, suc, ◌+◌, ◌<◌, ◌≤◌, Bool, List, [], ◌∷◌, length, max, set, get_or, Result, Ok, Err, refl, sym, ap, subst, ◌∙◌, arith}
 use Rattle.std.specs.Prelude.{nat_eq, nat_lt}
 use Rattle.std.specs.List.{AllByRecursion}
-use Rattle.std.proofs.lemmas.Bool.{cases_eq, eqb-true, le-ltb, lt-ltb, ltb-false, ltb-true}
+use Rattle.std.proofs.lemmas.Bool.{cases_eq, cases_lt, eqb-true, le-ltb, lt-ltb}
 use Rattle.std.proofs.lemmas.List.{length-set}
 use Rattle.warm_stamps.specs.declared.PageId.{PageId}
 use Rattle.warm_stamps.specs.declared.Reference.{Reference}
@@ -20,10 +20,11 @@ use Rattle.warm_shards.specs.Given.{AreGiven, Gives}
 use Rattle.warm_visits.specs.Given.{GivesOne, IsGiven, IsSame, at_horizon}
 use Rattle.warm_shards.specs.Shards.{AreShards, no_shard, shard_at, whole}
 use Rattle.warm_visits.specs.ShardNumbers.{of_first_shards, of_shard, shard_of}
-use Rattle.warm_shards.proofs.AreShardsLemmas.{at_each, each_still, some_shards}
+use Rattle.warm_shards.proofs.AreShardsLemmas.{each_still, some_shards}
+use Rattle.warm_frame_table.proofs.ListLemmas.{at_set}
 use Rattle.warm_shards.proofs.Buckets.{shard_horizon}
-use Rattle.warm_shards.proofs.Calls.{bytes_after, keep_then, read_at, takes_shard}
-use Rattle.warm_visits.proofs.GivenLemmas.{bytes_same}
+use Rattle.warm_shards.proofs.Calls.{keep_then, read_at, takes_shard}
+use Rattle.warm_pool.proofs.UnchangedLemmas.{more_bytes, same_bytes}
 use Rattle.warm_visits.proofs.PartListLemmas.{only_part, other_part, part_is_own}
 use Rattle.warm_visits.proofs.Lists.{filter_none, filter_within}
 use Rattle.warm_visits.proofs.PartLemmas.{no_part}
@@ -51,7 +52,7 @@ kept : (S : ReferenceSet) (old new : List NodeState) → EachIsGiven S old new �
     → (view_of (shard_at new i).pool ≡ view_of (shard_at old i).pool)
     × KeepsBytes (shard_at old i).pool (shard_at new i).pool
 kept S old new have =
-    everywhere (λ n m. (view_of m.pool ≡ view_of n.pool) × KeepsBytes n.pool m.pool) (refl, bytes_same no_shard.pool) old new have.count (λ i lt. (ap (λ (v : NodeView). v.pool) (have.each i lt).0, (have.each i lt).1))
+    everywhere (λ n m. (view_of m.pool ≡ view_of n.pool) × KeepsBytes n.pool m.pool) (refl, same_bytes no_shard.pool) old new have.count (λ i lt. (ap (λ (v : NodeView). v.pool) (have.each i lt).0, (have.each i lt).1))
 
 still : (S : ReferenceSet) (old new : List NodeState) → AreShards old → EachIsGiven S old new
     → AreShards new
@@ -88,12 +89,12 @@ pub record GivenFirst (S : ReferenceSet) (k : ℕ) (old ns : List NodeState) : T
   pub rest : (i : ℕ) → k ≤ i → IsSame (shard_at old i) (shard_at ns i)
 
 same_then : (a b c : NodeState) → IsSame a b → IsSame b c → IsSame a c
-same_then a b c x y = (y.0 ∙ x.0, bytes_after a.pool b.pool c.pool x.1 y.1)
+same_then a b c x y = (y.0 ∙ x.0, more_bytes a.pool b.pool c.pool x.1 y.1)
 
 given_then : (S : ReferenceSet) (a b c : NodeState) → IsSame a b → IsGiven S b c → IsGiven S a c
 given_then S a b c x y = (
   subst (λ (v : NodeView). node_view c ≡ record v { history = history (references_of v.history ∪ S) }) x.0 y.0,
-  bytes_after a.pool b.pool c.pool x.1 y.1,
+  more_bytes a.pool b.pool c.pool x.1 y.1,
 )
 
 -- a node that is as it was was given no reference, at a horizon that is not later
@@ -119,7 +120,7 @@ pub none_given : (S : ReferenceSet) (old : List NodeState) → GivenFirst S 0 ol
 none_given S old = record {
   count = refl;
   first = λ i lt. absurd (omega arith);
-  rest = λ i le. (refl, bytes_same (shard_at old i).pool);
+  rest = λ i le. (refl, same_bytes (shard_at old i).pool);
 }
 
 -- the next shard has no part
@@ -144,8 +145,8 @@ given_more S P k old ns n m d lt at is given have =
     let here : IsGiven part (shard_at ns k) m = subst (λ (x : NodeState). IsGiven part x m) (read_at ns k n d lt at) (subst (λ (T : ReferenceSet). IsGiven T n m) is given) in
     record {
       count = length-set ns k m ∙ have.count;
-      first = at_each (λ i x. i < k + 1 → IsGiven (of_shard (length old) i S) (shard_at old i) x) ns k m lt (λ less. given_then part (shard_at old k) (shard_at ns k) m (have.rest k (omega arith)) here) (λ i other less. have.first i (omega arith));
-      rest = at_each (λ i x. k + 1 ≤ i → IsSame (shard_at old i) x) ns k m lt (λ over. absurd (omega arith)) (λ i other over. have.rest i (omega arith));
+      first = at_set no_shard (λ i x. i < k + 1 → IsGiven (of_shard (length old) i S) (shard_at old i) x) ns k m lt (λ less. given_then part (shard_at old k) (shard_at ns k) m (have.rest k (omega arith)) here) (λ i other less. have.first i (omega arith));
+      rest = at_set no_shard (λ i x. k + 1 ≤ i → IsSame (shard_at old i) x) ns k m lt (λ over. absurd (omega arith)) (λ i other over. have.rest i (omega arith));
     }
 
 -- a shard that has none yet refused its part
@@ -156,8 +157,8 @@ given_stays S k j old ns n m d lt over at same have =
     let here : IsSame (shard_at ns j) m = subst (λ (x : NodeState). IsSame x m) (read_at ns j n d lt at) same in
     record {
       count = length-set ns j m ∙ have.count;
-      first = at_each (λ i x. i < k → IsGiven (of_shard (length old) i S) (shard_at old i) x) ns j m lt (λ less. absurd (omega arith)) (λ i other less. have.first i less);
-      rest = at_each (λ i x. k ≤ i → IsSame (shard_at old i) x) ns j m lt (λ le. same_then (shard_at old j) (shard_at ns j) m (have.rest j over) here) (λ i other le. have.rest i le);
+      first = at_set no_shard (λ i x. i < k → IsGiven (of_shard (length old) i S) (shard_at old i) x) ns j m lt (λ less. absurd (omega arith)) (λ i other less. have.first i less);
+      rest = at_set no_shard (λ i x. k ≤ i → IsSame (shard_at old i) x) ns j m lt (λ le. same_then (shard_at old j) (shard_at ns j) m (have.rest j over) here) (λ i other le. have.rest i le);
     }
 
 -- ---- the whole call
@@ -181,16 +182,13 @@ first_lacks count k i S le =
 
 given_some : (S : ReferenceSet) (k : ℕ) (old ns : List NodeState) → AreShards old
     → IsNoLater S old → GivenFirst S k old ns → EachIsGiven (of_first_shards (length old) k S) old ns
-given_some S k old ns are le have = record { count = have.count; each = λ i lt. cases i lt (nat_lt i k) refl }
-  where
-    cases : (i : ℕ) → i < length old → (b : Bool) → nat_lt i k ≡ b
-        → IsGiven (of_shard (length old) i (of_first_shards (length old) k S)) (shard_at old i) (shard_at ns i)
-    cases i lt true is =
-        let low : i < k = ltb-true i k is in
-        subst (λ (T : ReferenceSet). IsGiven T (shard_at old i) (shard_at ns i)) (first_has (length old) k i S low) (have.first i low)
-    cases i lt false is =
-        let over : k ≤ i = ltb-false i k is in
-        no_more S (of_shard (length old) i (of_first_shards (length old) k S)) old i (shard_at ns i) are lt le (first_lacks (length old) k i S over) (have.rest i over)
+given_some S k old ns are le have = record {
+  count = have.count;
+  each = λ i lt. elim (cases_lt i k) [
+    | inl low ↦ subst (λ (T : ReferenceSet). IsGiven T (shard_at old i) (shard_at ns i)) (first_has (length old) k i S low) (have.first i low)
+    | inr over ↦ no_more S (of_shard (length old) i (of_first_shards (length old) k S)) old i (shard_at ns i) are lt le (first_lacks (length old) k i S over) (have.rest i over)
+  ];
+}
 
 gives_ok : (S : ReferenceSet) (old new : List NodeState) (given : Unit {0}) → AreGiven S old new
     → Gives S old (Ok given) new
@@ -229,7 +227,7 @@ gives_alone S ns i n m d (Ok given) are lt le own at one =
     let page : Reference → PageId = λ r. r.page in
     let here : IsGiven S (shard_at ns i) m = subst (λ (x : NodeState). IsGiven S x m) (read_at ns i n d lt at) one.given in
     let all : S ≡ of_shard count i S = λ j. record { horizon = S.horizon; given = sym (only_part page count i S.given own) j } in
-    let each = at_each (λ k x. k < count → IsGiven (of_shard count k S) (shard_at ns k) x) ns i m lt (λ less. subst (λ (T : ReferenceSet). IsGiven T (shard_at ns i) m) all here) (λ k other less. no_more S (of_shard count k S) ns k (shard_at ns k) are less le (λ j. record { horizon = S.horizon; given = sym (other_part page count i k S.given other own) j }) (refl, bytes_same (shard_at ns k).pool)) in
+    let each = at_set no_shard (λ k x. k < count → IsGiven (of_shard count k S) (shard_at ns k) x) ns i m lt (λ less. subst (λ (T : ReferenceSet). IsGiven T (shard_at ns i) m) all here) (λ k other less. no_more S (of_shard count k S) ns k (shard_at ns k) are less le (λ j. record { horizon = S.horizon; given = sym (other_part page count i k S.given other own) j }) (refl, same_bytes (shard_at ns k).pool)) in
     gives_ok S ns (set ns i m) given (given_all S ns (set ns i m) are (record { count = length-set ns i m; each = each }))
 
 -- ---- raised, and then given

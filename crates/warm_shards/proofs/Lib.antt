@@ -1,4 +1,5 @@
 pub mod Places
+pub mod FirstLemmas
 pub mod Pages
 pub mod WholeLemmas
 pub mod Buckets

@@ -1,11 +1,11 @@
 -- Which pages a history has, given those of its references.
-use Rattle.std.proofs.Common.{◌≡◌, List, [], ◌∷◌, ◌++◌, map, Option, Some, None, refl, subst, inl, inr}
+use Rattle.std.proofs.Common.{◌≡◌, List, [], ◌∷◌, ◌++◌, map, Option, Some, None, refl}
 use Rattle.std.specs.List.{AllByRecursion}
 use Rattle.warm_stamps.specs.declared.Stamp.{Stamp}
 use Rattle.warm_stamps.specs.declared.PageId.{PageId}
 use Rattle.warm_stamps.specs.declared.Reference.{Reference}
 use Rattle.warm_stamps.specs.Stamps.{page_cmp}
-use Rattle.warm_stamps.proofs.DistinctLemmas.{Has, all_append, all_filter, all_of_has, has_from_distinct}
+use Rattle.warm_stamps.proofs.DistinctLemmas.{all_append, all_filter, all_of_has, has_from_distinct}
 use Rattle.warm_stamps.proofs.StampLemmas.{page_order}
 use Rattle.warm_history.specs.Entry.{Entry}
 use Rattle.warm_history.specs.PageHist.{PageHist}
@@ -13,12 +13,7 @@ use Rattle.warm_history.specs.ListHistories.{hist_stamps, list_references_of, re
 use Rattle.warm_history.specs.ReferenceSets.{ReferenceSet, is_kept, references}
 use Rattle.warm_history.specs.Histories.{entries_of, hist, history, pages}
 use Rattle.warm_history.proofs.ListHistoryLemmas.{entries}
-
-pub each_has : {A : Type 0} (P : A → Type 0) (xs : List A) (x : A) → AllByRecursion P xs → Has xs x
-    → P x
-each_has P [] x all has = absurd has
-each_has P (y ∷ ys) x all (inl is) = subst P is all.0
-each_has P (y ∷ ys) x all (inr later) = each_has P ys x all.1 later
+use Rattle.warm_rank.proofs.OutrankedLemmas.{all_has}
 
 all_paged : (P : PageId → Type 0) (rs : List Reference) → AllByRecursion (λ r. P r.page) rs
     → AllByRecursion P (map (λ r. r.page) rs)
@@ -30,7 +25,7 @@ pub all_pages : (P : PageId → Type 0) (S : ReferenceSet) → AllByRecursion (�
     → AllByRecursion P (pages S)
 all_pages P S all =
     let named = map (λ (r : Reference). r.page) (references S) in
-    all_of_has P (pages S) (λ p has. each_has P named p (all_paged P (references S) (all_filter (λ r. P r.page) (λ r. is_kept S.horizon r.stamp) S.given all)) (has_from_distinct page_cmp page_order named p has))
+    all_of_has P (pages S) (λ p has. all_has P named p (all_paged P (references S) (all_filter (λ r. P r.page) (λ r. is_kept S.horizon r.stamp) S.given all)) (has_from_distinct page_cmp page_order named p has))
 
 all_listed : (P : PageId → Type 0) (f : PageId → Option PageHist) (ps : List PageId)
     → AllByRecursion P ps → AllByRecursion (λ e. P e.page) (entries f ps)

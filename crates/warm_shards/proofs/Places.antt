@@ -1,26 +1,8 @@
--- Places of a list: what stands there, and what does after one has changed.
-use Rattle.std.proofs.Common.{◌≡◌, ◌≢◌, ℕ, zero, suc, ◌<◌, Bool, true, false, List, [], ◌∷◌, length, set, get_or, refl, sym, subst, ◌∙◌, arith}
-use Rattle.std.specs.Prelude.{nat_eq}
-use Rattle.std.proofs.lemmas.Bool.{eq-eqb, eqb-true}
-use Rattle.std.proofs.lemmas.List.{get_or-set_other, get_or-set_same}
+-- Places of a list.
+use Rattle.std.proofs.Common.{◌≡◌, ℕ, ◌<◌, List, length, get_or, ◌∙◌}
+use Rattle.std.proofs.lemmas.List.{get_or_default}
 
-module _ {A : Type 0} where
-  -- an item within the list, whatever stands beyond it
-  pub read_at : (xs : List A) (i : ℕ) (a d e : A) → i < length xs → a ≡ get_or xs i d
-      → a ≡ get_or xs i e
-  read_at [] i a d e lt is = absurd (omega arith)
-  read_at (x ∷ xs) zero a d e lt is = is
-  read_at (x ∷ xs) (suc i) a d e lt is = read_at xs i a d e (omega arith) is
-
-  -- what is true of the new item and of the others is true of each
-  pub at_each : (P : ℕ → A → Type 0) (xs : List A) (i : ℕ) (a d : A) → i < length xs → P i a
-      → ((k : ℕ) → k ≢ i → P k (get_or xs k d)) → (k : ℕ) → P k (get_or (set xs i a) k d)
-  at_each P xs i a d lt new old k = cases (nat_eq k i) refl
-    where
-      cases : (b : Bool) → nat_eq k i ≡ b → P k (get_or (set xs i a) k d)
-      cases true is =
-          let same : k ≡ i = eqb-true k i is in
-          subst (λ x. P x (get_or (set xs i a) x d)) (sym same) (subst (P i) (sym (get_or-set_same xs i a d lt)) new)
-      cases false is =
-          let other : k ≢ i = λ e. let no : true ≡ false = sym (eq-eqb k i e) ∙ is in absurd (cc) in
-          subst (P k) (sym (get_or-set_other xs i k a d other)) (old k other)
+-- an item within the list, whatever stands beyond it
+pub read_at : {A : Type 0} (xs : List A) (i : ℕ) (a d e : A) → i < length xs → a ≡ get_or xs i d
+    → a ≡ get_or xs i e
+read_at xs i a d e lt is = is ∙ get_or_default xs i d e lt

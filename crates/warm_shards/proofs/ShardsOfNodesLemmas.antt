@@ -1,6 +1,7 @@
 -- Shards of nodes that have run: each is raised to the latest horizon, and all together are what
 -- the nodes were.
 use Rattle.std.proofs.Common.{◌≡◌, ℕ, zero, suc, ◌<◌, ◌≤◌, List, [], ◌∷◌, length, max, take, sym, ap, subst, ◌∙◌, arith}
+use Rattle.std.proofs.Math.Nat.{le-max_left, le-max_right, le_trans, max-eq_right}
 use Rattle.warm_history.specs.ReferenceSets.{with_horizon, ◌∪◌}
 use Rattle.warm_history.specs.Histories.{HistoryView, IsHistory, history, references_of}
 use Rattle.warm_history.proofs.HistoryLemmas.{IsHistory-history, horizon-history}
@@ -24,14 +25,9 @@ use Rattle.warm_shards.proofs.WholeParts.{parts_taken}
 pub at_most : (ns : List NodeState) (i : ℕ) → i < length ns
     → (shard_at ns i).history.horizon ≤ (held ns).horizon
 at_most [] i lt = absurd (omega arith)
-at_most (n ∷ ns) zero lt = left n.history.horizon (held ns).horizon
-  where
-    left : (a b : ℕ) → a ≤ max a b
-    left a b = omega arith
-at_most (n ∷ ns) (suc i) lt = right n.history.horizon (held ns).horizon (shard_at ns i).history.horizon (at_most ns i (omega arith))
-  where
-    right : (a b c : ℕ) → c ≤ b → c ≤ max a b
-    right a b c le = omega arith
+at_most (n ∷ ns) zero lt = le-max_left n.history.horizon (held ns).horizon
+at_most (n ∷ ns) (suc i) lt =
+    le_trans (at_most ns i (omega arith)) (le-max_right n.history.horizon (held ns).horizon)
 
 pub raised_horizon : (n m : NodeState) (time : ℕ) → Rises time n m
     → m.history.horizon ≡ max n.history.horizon time
@@ -56,9 +52,6 @@ formed_shards number ns ms can rises =
     all_shards number time ms (subst IsShardCount (sym rises.count) can.count) (omega (arith, rises.count, some)) (λ i lt.
     subst (λ c. IsShard c number time i (shard_at ms i)) (sym rises.count) (formed i (omega (arith, rises.count))))
   where
-    latest : (a t : ℕ) → a ≤ t → max a t ≡ t
-    latest a t le = omega arith
-
     formed : (i : ℕ) → i < length ns
         → IsShard (length ns) number (whole ns).horizon i (shard_at ms i)
     formed i lt =
@@ -70,7 +63,7 @@ formed_shards number ns ms can rises =
         let most : n.history.horizon ≤ time = subst (λ x. n.history.horizon ≤ x) (sym (horizon-history (held ns))) (at_most ns i lt) in
         record {
           id = ap (λ (v : NodeView). v.id) up.0 ∙ can.id i lt;
-          horizon = raised_horizon n m time up ∙ latest n.history.horizon time most;
+          horizon = raised_horizon n m time up ∙ max-eq_right most;
           valid = subst IsHistory (sym is) (IsHistory-history (with_horizon time (references_of n.history)));
           own = takes_own (length ns) i _ _ (at_horizon time) (can.own i lt) up.0 tt;
         }

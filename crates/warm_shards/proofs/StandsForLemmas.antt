@@ -1,8 +1,8 @@
 -- What each shard stands for.
-use Rattle.std.proofs.Common.{◌≡◌, ◌≢◌, ℕ, ◌<◌, Bool, true, false, List, map, filter, length, Option, None, refl, sym, ap, ◌∙◌, arith}
+use Rattle.std.proofs.Common.{◌≡◌, ◌≢◌, inl, inr, ℕ, ◌<◌, Bool, List, map, filter, length, Option, None, sym, ap, ◌∙◌, arith}
 use Rattle.std.specs.Prelude.{nat_eq}
 use Rattle.std.specs.Ordering.{is_eq, flip_args}
-use Rattle.std.proofs.lemmas.Bool.{eq-eqb, eqb-true}
+use Rattle.std.proofs.lemmas.Bool.{cases_eq, eq-eqb, ne_eqb}
 use Rattle.warm_stamps.specs.declared.PageId.{PageId}
 use Rattle.warm_stamps.specs.declared.Reference.{Reference}
 use Rattle.warm_stamps.specs.Distinct.{distinct}
@@ -41,14 +41,7 @@ other_of_shard count i S p other =
     let own : Reference → Bool = λ r. nat_eq (shard_of count r.page) i in
     let here : Reference → Bool = λ r. is_eq (page_cmp r.page p) in
     ap (λ rs. latest_in (filter here rs)) (references-those own S)
-    ∙ ap latest_in (filter_none here own (λ r to. neither (shard_of count r.page) (λ e. other (sym (ap (shard_of count) (page_order.same r.page p (is_equal (page_cmp r.page p) to))) ∙ e))) (references S))
-  where
-    neither : (s : ℕ) → s ≢ i → nat_eq s i ≡ false
-    neither s away = cases (nat_eq s i) refl
-      where
-        cases : (b : Bool) → nat_eq s i ≡ b → nat_eq s i ≡ false
-        cases true is = absurd (away (eqb-true s i is))
-        cases false is = is
+    ∙ ap latest_in (filter_none here own (λ r to. ne_eqb (shard_of count r.page) i (λ e. other (sym (ap (shard_of count) (page_order.same r.page p (is_equal (page_cmp r.page p) to))) ∙ e))) (references S))
 
 -- of all references for which the shards together stand, one stands for those to its pages
 pub shard_stands : (S : ReferenceSet) (ns : List NodeState) (i : ℕ) → AreShards ns → i < length ns
@@ -58,16 +51,7 @@ shard_stands S ns i are lt stands =
     let count = length ns in
     let at : h.horizon ≡ S.horizon = shard_horizon ns i are lt (omega arith) ∙ ap (λ g. g.horizon) stands ∙ horizon-history S in
     sym (history_of_own_references h (are.each i lt).valid)
-    ∙ same_hists (references_of h) (of_shard count i S) at (λ p. cases p (nat_eq (shard_of count p) i) refl)
-  where
-    cases : (p : PageId) (b : Bool) → nat_eq (shard_of (length ns) p) i ≡ b
-        → hist (references_of (shard_at ns i).history) p ≡ hist (of_shard (length ns) i S) p
-    cases p true is =
-        let own = eqb-true (shard_of (length ns) p) i is in
-        sym (hist_whole ns i p are lt own)
-        ∙ ap (λ g. hist (references_of g) p) stands
-        ∙ hist_refs-history S p
-        ∙ sym (own_of_shard (length ns) i S p own)
-    cases p false is =
-        let other : shard_of (length ns) p ≢ i = λ e. let no : true ≡ false = sym (eq-eqb (shard_of (length ns) p) i e) ∙ is in absurd (cc) in
-        hist_elsewhere ns i p are lt other ∙ sym (other_of_shard (length ns) i S p other)
+    ∙ same_hists (references_of h) (of_shard count i S) at (λ p. elim (cases_eq (shard_of count p) i) [
+      | inl own ↦ sym (hist_whole ns i p are lt own) ∙ ap (λ g. hist (references_of g) p) stands ∙ hist_refs-history S p ∙ sym (own_of_shard count i S p own)
+      | inr other ↦ hist_elsewhere ns i p are lt other ∙ sym (other_of_shard count i S p other)
+    ])

@@ -10,6 +10,7 @@ use Rattle.warm_rank.specs.Ranking.{IsVictim, eviction_cmp}
 use Rattle.warm_rank.proofs.KeyLemmas.{keys_order_pages, known_keys_rank}
 use Rattle.warm_pool.specs.View.{FrameView, PoolView, frame_at, unfixed_page, unfixed_pages, view_of}
 use Rattle.warm_gossip.specs.State.{NodeState}
+use Rattle.warm_gossip.proofs.VictimLemmas.{no_frame}
 use Rattle.warm_shards.specs.Shards.{AreShards, shard_at, whole}
 use Rattle.warm_visits.specs.ShardNumbers.{shard_of}
 use Rattle.warm_shards.proofs.WholeLemmas.{hist_whole}
@@ -23,9 +24,6 @@ evicted_alike ns j p q are lt own other =
     let R = references_of (shard_at ns j).history in
     sym (keys_order_pages R p q)
     ∙ known_keys_rank (references_of (whole ns)) p q (hist R p) (hist R q) (sym (hist_whole ns j p are lt own)) (sym (hist_whole ns j q are lt other))
-
-abbrev no_frame : FrameView
-no_frame = record { page = None; generation = 0; fixes = 0 }
 
 all_unfixed : (P : PageId → Type 0) (fs : List FrameView)
     → ((k : ℕ) (p : PageId) → (get_or fs k no_frame).page ≡ Some p → P p)

@@ -1,5 +1,6 @@
 -- Calls that go to each shard, from the first on, and stop if one refuses.
 use Rattle.std.specs.Prelude.{◌≡◌, ◌⊎◌, ℕ, ◌<◌, ◌≤◌, false, List, [], length}
+use Rattle.std.specs.Prelude.{slice_index_or}
 use Rattle.warm_history.specs.Histories.{history_of_entries_at}
 use Rattle.warm_pool.specs.Calls.{FlushesNone}
 use Rattle.warm_pool.specs.Forgetting.{ForgetRefused, Forgets, MayForget}
@@ -19,7 +20,7 @@ use Rattle.warm_gossip.specs.Engine.{KeepsKnown}
 use Rattle.warm_gossip.specs.State.{NodeState, node_view}
 use Rattle.warm_gossip.specs.Step.{IsFailed, OnPool}
 use Rattle.warm_visits.specs.Given.{IsGiven, at_horizon}
-use Rattle.warm_shards.specs.Shards.{shard_at, whole}
+use Rattle.warm_shards.specs.Shards.{no_shard, shard_at, whole}
 
 -- each shard has changed as `change` says
 pub record OfEach (change : NodeState → NodeState → Type 0) (old new : List NodeState)
@@ -27,12 +28,17 @@ pub record OfEach (change : NodeState → NodeState → Type 0) (old new : List 
   pub count : length new ≡ length old
   pub each : (i : ℕ) → i < length old → change (shard_at old i) (shard_at new i)
 
--- the first k shards have changed as `change` says, and the others are unchanged
-pub record OfFirst (change : NodeState → NodeState → Type 0) (k : ℕ) (old new : List NodeState)
+-- `So` holds of each item below k, before and after. The others are unchanged. Beyond the last item
+-- one reads `none`.
+pub record First {A : Type 0} (none : A) (So : ℕ → A → A → Type 0) (k : ℕ) (old new : List A)
     : Type 0 where
   pub count : length new ≡ length old
-  pub first : (i : ℕ) → i < k → change (shard_at old i) (shard_at new i)
-  pub rest : (i : ℕ) → k ≤ i → shard_at new i ≡ shard_at old i
+  pub first : (i : ℕ) → i < k → So i (slice_index_or old i none) (slice_index_or new i none)
+  pub others : (i : ℕ) → k ≤ i → slice_index_or new i none ≡ slice_index_or old i none
+
+-- the first k shards have changed as `change` says, and the others are unchanged
+abbrev pub OfFirst : (NodeState → NodeState → Type 0) → ℕ → List NodeState → List NodeState → Type 0
+OfFirst change k old new = First no_shard (λ i. change) k old new
 
 -- The call stopped at one shard. The shards before it have changed as `done` says, this shard as
 -- `fails` says, and the shards after it as `left` says.

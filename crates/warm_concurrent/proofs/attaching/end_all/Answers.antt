@@ -1,6 +1,9 @@
 use Rattle.std.proofs.Common.{◌≡◌, ◌<◌, ◌∙◌, length, ap, sym, arith}
-use Rattle.warm_concurrent.specs.Attached.{ShardPass, ShardTurn, no_pass, no_turn, shard_pass, shard_turn}
-use Rattle.warm_concurrent.proofs.AttachingLemmas.{joined_next, joined_of, later_next}
+use Rattle.warm_turn.specs.CallHistories.{Joined}
+use Rattle.warm_shard_machine.specs.ShardSteps.{ShardStep}
+use Rattle.warm_concurrent.specs.Attached.{ShardPass, ShardTurn, known_of, no_pass, no_turn, shard_pass, shard_turn}
+use Rattle.warm_concurrent.proofs.AttachingLemmas.{joined_here, joined_of}
+use Rattle.warm_shards.proofs.FirstLemmas.{next_first}
 use Rattle.warm_shards.proofs.Places.{read_at}
 use Rattle.warm_concurrent.proofs.ListLemmas.{after_remove, first_left}
 use Rattle.warm_concurrent.proofs.attaching.end_all.Goals as goal
@@ -29,7 +32,6 @@ loop-shard-preserved g c =
     let i = c.loop-shard.invariant in
     let k = c.loop-shard.shard in
     let turns = c.args.turns.now.items in
-    let start = c.args.passes.now.items in
     let others = c.args.others.items in
     let now = c.loop-shard.passes.items in
     let n = c.index_mut.result.now in
@@ -42,8 +44,7 @@ loop-shard-preserved g c =
     let other : u ≡ shard_pass others k = first_left others c.loop-shard.others.items k u no_pass i.others (omega (arith, lt, c.requires.those.count)) c.remove-other.ensures.value in
     record {
       count = i.count;
-      of = joined_of turns start others now k p n u t i.of lt i.later at other is c.end.ensures.table c.end.ensures.seen;
+      of = joined_of turns others now k p n u t i.of lt at other is c.end.ensures.table c.end.ensures.seen;
       others = after_remove others c.loop-shard.others.items c.remove-other.new.self.items k i.others c.remove-other.ensures.by_index.2;
-      joined = joined_next turns start others now k p n u t i.of lt i.later at other is c.end.ensures.seen i.joined;
-      later = later_next turns start others now k p n u t i.of lt i.later at other is;
+      joined = next_first (λ j old new. Joined ShardStep old.view (known_of others j) new.view) k c.args.passes.now.items now p (omega (arith, lt, c.requires.these.count)) i.joined (joined_here turns others now k p n u t i.of lt at other is c.end.ensures.seen);
     }

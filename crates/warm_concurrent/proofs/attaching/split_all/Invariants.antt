@@ -1,5 +1,6 @@
 use Rattle.std.proofs.Common.{◌≡◌, ◌≤◌, ℕ, ◌<◌, length, vec_capacity}
-use Rattle.warm_concurrent.specs.Attached.{AreOf, IsPassOf, known_of, shard_pass, shard_turn}
+use Rattle.warm_shards.specs.EachShard.{First}
+use Rattle.warm_concurrent.specs.Attached.{AreOf, IsPassOf, known_of, no_pass, shard_pass, shard_turn}
 use Rattle.warm_concurrent.specs.Opening.{IsSplit, with_half}
 use Rattle.warm_concurrent.proofs.attaching.split_all.Given as goal
 
@@ -8,9 +9,7 @@ abbrev pub invariant-loop-shard : goal.invariant-loop-shard
 invariant-loop-shard g l = record {
   count : l.count ≡ length l.fn.turns.items;
   of : AreOf l.fn.turns.items l.passes.items;
-  halved : (i : ℕ) → i < l.shard
-      → shard_pass l.passes.items i ≡ with_half (shard_pass l.fn.passes.items i);
-  later : (i : ℕ) → l.shard ≤ i → shard_pass l.passes.items i ≡ shard_pass l.fn.passes.items i;
+  halved : First no_pass (λ i old new. new ≡ with_half old) l.shard l.fn.passes.items l.passes.items;
   number : length l.all.items ≡ l.shard;
   capacity : l.count ≤ vec_capacity l.all;
   each : (i : ℕ) → i < l.shard

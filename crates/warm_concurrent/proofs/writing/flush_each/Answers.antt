@@ -1,7 +1,7 @@
 use Rattle.std.proofs.Common.{◌<◌, length, arith}
 use Rattle.warm_shard_machine.specs.declared.calls.ShardCall.TheVariants.{WriteBack}
 use Rattle.warm_concurrent.specs.Whole.{Does}
-use Rattle.warm_concurrent.proofs.WholeCallLemmas.{one_first}
+use Rattle.warm_shards.proofs.FirstLemmas.{one_first}
 use Rattle.warm_concurrent.proofs.writing.flush_each.Goals as goal
 
 pub loop-shard-preserved : goal.loop-shard-preserved
