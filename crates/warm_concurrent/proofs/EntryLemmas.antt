@@ -20,7 +20,7 @@ use Rattle.warm_shard_machine.specs.ShardSteps.{MayAnswer}
 use Rattle.warm_shard_machine.specs.declared.calls.ShardCall.{ShardCall}
 use Rattle.warm_shard_machine.specs.declared.calls.ShardCall.TheVariants.{Enter}
 use Rattle.warm_shard_machine.specs.declared.calls.ShardReply.{ShardReply}
-use Rattle.warm_shard_machine.specs.declared.calls.ShardReply.TheVariants.{Entered, Foreign}
+use Rattle.warm_shard_machine.specs.declared.calls.ShardReply.TheVariants.{Entered}
 use Rattle.warm_concurrent.specs.declared.fault.SharedFault.TheVariants.{Node}
 use Rattle.warm_concurrent.specs.Attached.{ShardPass}
 use Rattle.warm_concurrent.specs.Clauses.{AnsweredByShard}
@@ -63,12 +63,6 @@ module _ (old new : List ShardPass) (total shard : ℕ) (v : VisitState) (c : Sh
   same_plan w reply stops =
       let gone = says w reply in
       ap (λ (x : VisitState). x.plan) (stopped_as v w gone.0 gone.1 gone.2 stops)
-
-  -- a shard of the turns is at its place
-  pub not_elsewhere : r ≡ Foreign → ⊥
-  not_elsewhere reply =
-      let so : MayAnswer total shard (Enter total shard v) Foreign = subst (λ x. MayAnswer total shard (Enter total shard v) x) reply (subst (λ x. MayAnswer total shard x r) call may) in
-      (so (refl, refl)).2
 
   module _ (long : length old ≡ total) (there : shard < length old)
       (answered : AnsweredByShard old shard c r new) (w : VisitState) (reply : r ≡ Entered w) where

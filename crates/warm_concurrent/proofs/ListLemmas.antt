@@ -1,7 +1,6 @@
 -- Items that are added at the end of a list, or taken from its start.
-use Rattle.std.proofs.Common.{◌≡◌, inl, inr, ℕ, zero, suc, ◌+◌, ◌<◌, List, [], ◌∷◌, ◌++◌, length, set, get_or, take, drop, refl, sym, ap, subst, ◌∙◌, arith, get_or-drop}
+use Rattle.std.proofs.Common.{◌≡◌, inl, inr, ℕ, zero, suc, ◌+◌, ◌<◌, List, [], ◌∷◌, ◌++◌, length, get_or, take, drop, refl, sym, ap, subst, ◌∙◌, arith, get_or-drop}
 use Rattle.std.proofs.lemmas.Bool.{cases_eq}
-use Rattle.std.proofs.lemmas.List.{set-get_or}
 use Rattle.warm_shards.proofs.Places.{read_at}
 
 module _ {A : Type 0} where
@@ -47,7 +46,3 @@ module _ {A : Type 0} where
   first_left xs rest j a d is lt first =
       let same : j + 0 ≡ j = omega arith in
       read_at xs j a a d lt (first ∙ ap (λ l. get_or l 0 a) is ∙ get_or-drop j xs 0 a ∙ ap (λ n. get_or xs n a) same)
-
-  -- an item that is replaced by itself
-  pub set_same : (xs : List A) (i : ℕ) (a b : A) → b ≡ a → a ≡ get_or xs i a → set xs i b ≡ xs
-  set_same xs i a b is at = ap (set xs i) (is ∙ at) ∙ set-get_or xs i a

@@ -70,20 +70,6 @@ module _ (turns : List ShardTurn) (old : List ShardPass) (i : ℕ) (p : ShardPas
       → n.view.opening ≡ Some (shard_turn turns i).opening
   opened_with n is = ap (λ (q : ShardPass). q.view.opening) is ∙ (are.each i lt).opens
 
-  pub of_turn : (n : ShardPass) → n ≡ shard_pass old i → n.table ≡ (shard_turn turns i).table
-  of_turn n is = ap (λ (q : ShardPass). q.table) is ∙ (are.each i lt).table
-
-  -- the pass after a call is of the turn
-  pub called_of : (n : ShardPass) (c : ShardCall) (r : ShardReply) → n ≡ shard_pass old i
-      → p.table ≡ n.table → Called ShardStep n.view c r p.view → AreOf turns (set old i p)
-  called_of n c r is table called =
-      still_of turns old i p are lt (record { table = table ∙ of_turn n is; opens = called.opening ∙ opened_with n is })
-
-  pub spent_of : (n : ShardPass) → n ≡ shard_pass old i → p.table ≡ n.table
-      → p.view ≡ as_spent n.view → AreOf turns (set old i p)
-  spent_of n is table mark =
-      still_of turns old i p are lt (record { table = table ∙ of_turn n is; opens = ap (λ (v : Known). v.opening) mark ∙ opened_with n is })
-
   pub may : (n : ShardPass) (c : ShardCall) (r : ShardReply) → AreTurns turns → n ≡ shard_pass old i
       → Called ShardStep n.view c r p.view → MayAnswer (length turns) i c r
   may n c r all is called own =

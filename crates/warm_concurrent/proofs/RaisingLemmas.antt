@@ -1,7 +1,7 @@
 -- Shards that were raised, and the horizons that they then had.
-use Rattle.std.proofs.Common.{◌≡◌, ℕ, max, List, [], ◌∷◌, ◌++◌, get_or, length, ap, ◌∙◌, arith}
+use Rattle.std.proofs.Common.{◌≡◌, ℕ, max, List, [], ◌∷◌, ◌++◌, get_or, ap, ◌∙◌, arith}
 use Rattle.warm_concurrent.specs.Attached.{ShardPass}
-use Rattle.warm_concurrent.specs.Raising.{RaisesAll, RaisesFirstTo, latest_in}
+use Rattle.warm_concurrent.specs.Raising.{RaisesFirstTo, latest_in}
 use Rattle.warm_concurrent.specs.Whole.{RaisesFirst}
 
 both_sides : (a b c : ℕ) → max a (max b c) ≡ max (max a b) c
@@ -20,8 +20,3 @@ raised_first time k horizons old new so = record {
   first = λ i lt. (get_or horizons i 0, so.1.first i lt);
   others = so.1.others;
 }
-
-pub all_raised : (time horizon : ℕ) (old new : List ShardPass) → RaisesAll time horizon old new
-    → RaisesFirst time (length old) old new
-all_raised time horizon old new (horizons, so, is) =
-    raised_first time (length old) horizons old new so

@@ -29,7 +29,7 @@ use Rattle.warm_gossip.specs.State.{NodeState, NodeView, node_view}
 use Rattle.warm_gossip.specs.Step.{IsFailed, OnPool, Step}
 use Rattle.warm_gossip.proofs.BringsLemmas.{vacant}
 use Rattle.warm_shards.specs.Shards.{AreShards, IsShard, held, no_shard, shard_at, whole}
-use Rattle.warm_shards.specs.EachShard.{DeviceFails, HasFixed, HasForgotten, IsClean, IsUnchanged, IsWritten, OfEach, OfFirst, RestartRefused, RestartStops, Rises, ShardFlushFails, ShardForgetsPages, ShardRestarts, ShardSettles, ShardWriteFails}
+use Rattle.warm_shards.specs.EachShard.{DeviceFails, HasForgotten, IsClean, IsUnchanged, IsWritten, OfEach, OfFirst, RestartRefused, RestartStops, Rises, ShardFlushFails, ShardForgetsPages, ShardRestarts, ShardSettles, ShardWriteFails}
 use Rattle.warm_shards.specs.EachShard.{ShardsAreUnfixed, StopsAtShard, WriteBackStops}
 use Rattle.warm_shards.proofs.Buckets.{shard_horizon}
 use Rattle.warm_shards.proofs.Calls.{alone_known, known_shard, read_at, same_shard}
@@ -358,11 +358,6 @@ pub restarted_empty : (old new : List NodeState) (result : Result Unit NodeFault
     → OnOk result (OfEach ShardRestarts old new) → OnOk result (whole new ≡ history_of_entries [])
 restarted_empty old new (Err why) each = tt
 restarted_empty old new (Ok given) each = restarted_whole old new each
-
--- why shards do not restart: a page is pinned; or a device failed
-pub pinned_refuses : (old : List NodeState) (why : NodeFault) → why ≡ Pool Fixed → HasFixed old
-    → RestartRefused old why old
-pinned_refuses old why is fixed = subst (λ w. RestartRefused old w old) (sym is) (fixed, refl)
 
 pub fault_refuses : (old new : List NodeState) (result : Result Unit NodeFault)
     → ShardsAreUnfixed old

@@ -1,8 +1,6 @@
 -- The part of a shard of the entries of a message: it fits into one, and its pages are of the shard.
 use Rattle.std.proofs.Common.{◌≡◌, ℕ, Bool, List, arith, nat_eq, not, refl}
 use Rattle.std.specs.Ordering.{on}
-use Rattle.std.specs.List.{All}
-use Rattle.std.proofs.lemmas.List.Elements.{All-from_recursion}
 use Rattle.std.proofs.lemmas.List.Filters.{length-filter_both}
 use Rattle.warm_stamps.specs.Stamps.{page_cmp}
 use Rattle.warm_stamps.proofs.DistinctLemmas.{rising_filter}
@@ -10,7 +8,6 @@ use Rattle.warm_history.specs.Entry.{Entry}
 use Rattle.warm_frames.specs.Entries.{FitsInFrame, IsEntryList}
 use Rattle.warm_visits.specs.ShardNumbers.{shard_of}
 use Rattle.warm_visits.specs.Parts.{part_of_entries}
-use Rattle.warm_visits.proofs.PartListLemmas.{part_is_own}
 
 abbrev is_own : ℕ → ℕ → Entry → Bool
 is_own shards shard e = nat_eq (shard_of shards e.page) shard
@@ -24,8 +21,3 @@ part_fits shards shard es is =
       rising_filter (on (λ (e : Entry). e.page) page_cmp) test es is.pages_ascend,
       omega (arith, is.at_most, shorter),
     )
-
-pub part_owned : (shards shard : ℕ) (es : List Entry)
-    → All (λ e. shard_of shards e.page ≡ shard) (part_of_entries shards shard es)
-part_owned shards shard es =
-    All-from_recursion (λ (e : Entry). shard_of shards e.page ≡ shard) (part_of_entries shards shard es) (part_is_own (λ (e : Entry). e.page) shards shard es)

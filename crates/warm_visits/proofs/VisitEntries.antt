@@ -7,29 +7,17 @@ use Rattle.warm_gossip.specs.declared.call.Call.TheVariants as call
 use Rattle.warm_gossip.specs.declared.call.Reply.TheVariants as reply
 use Rattle.warm_gossip.specs.Clauses.{Goes}
 use Rattle.warm_gossip.specs.State.{NodeState}
-use Rattle.warm_visits.specs.Given.{IsGiven, IsSame, at_horizon}
+use Rattle.warm_visits.specs.Given.{IsGiven, at_horizon}
 use Rattle.warm_visits.specs.declared.giving.Parts.{Parts}
 use Rattle.warm_visits.specs.declared.visit.Work.{Work}
 use Rattle.warm_visits.specs.declared.visit.Work.TheVariants.{Give, Raise, Read}
 use Rattle.warm_visits.specs.Plans.{give_from, raise_from}
 use Rattle.warm_visits.specs.VisitParts.{IsFirstPart, IsPlace, IsReader, IsVisit, after_of, earlier, made_of, part_at, visit_of, work_from}
-use Rattle.warm_visits.specs.VisitReads.{HasReadOne, IsReadMade}
+use Rattle.warm_visits.specs.VisitReads.{IsReadMade}
 use Rattle.warm_visits.specs.Visits.{After, Ask, Errand, HasEntered, Made, VisitState, answered, answers_of, at_shard, begun, copy_of, copying, ends, entries_for, entries_left, entries_unless, gathered, given, giving, joined, keeps, next_shard, offer_in, offering, onward, raise_plan, refused, sending, shard_next}
 use Rattle.warm_visits.proofs.VisitPlans.{give_end, give_here, give_skip, raise_begun, raise_end, raise_here}
 
 -- ---- the next shard
-
-pub stopped_none : (stopped : Bool) (plan : List Errand) → stopped ≡ true
-    → shard_next stopped plan ≡ None
-stopped_none stopped plan is = ap (λ b. shard_next b plan) is
-
--- a shard that is still to be raised
-pub next_raised : (id count time rising shard : ℕ) (work : Work) (kept : Option ℕ)
-    (stopped : Bool) → rising < count → stopped ≡ false
-    → next_shard (visit_of id count time rising shard work kept stopped) ≡ Some rising
-next_raised id count time rising shard work kept stopped lt well =
-    ap (λ b. shard_next b (raise_from count time rising ++ work_from count work shard)) well
-    ∙ ap (λ es. shard_next false (es ++ work_from count work shard)) (raise_here count time rising lt)
 
 -- once all are, what the visit does then
 pub next_work : (id count time rising shard : ℕ) (work : Work) (kept : Option ℕ) (stopped : Bool)
@@ -83,14 +71,6 @@ shorter_by_one v e rest stopped after plan well going same =
     (subst (λ (b : Bool). entries_unless false rest v.after < entries_unless b v.plan v.after) (sym well)
     (subst (λ (es : List Errand). entries_unless false rest v.after < entries_unless false es v.after) (sym plan) (omega (arith, here)))))
 
--- an errand is refused
-pub shorter_stopped : (v : VisitState) (e : Errand) (rest : List Errand) → v.plan ≡ e ∷ rest
-    → v.stopped ≡ false → 0 < entries_left v
-shorter_stopped v e rest plan well =
-    let here = one_at_least e.ask in
-    subst (λ (b : Bool). 0 < entries_unless b v.plan v.after) (sym well)
-    (subst (λ (es : List Errand). 0 < entries_unless false es v.after) (sym plan) (omega (arith, here)))
-
 -- ---- entries
 
 -- what was read is no horizon
@@ -142,32 +122,6 @@ given_plan count time rising shard parts over lt some =
     ap (λ es. es ++ give_from count (part_at parts) shard) (raise_end count time rising over)
     ∙ give_here count (part_at parts) shard lt some
 
--- a node that has no memory for its part
-pub enters_refused : (id count time rising shard : ℕ) (parts : Parts) (kept : Option ℕ)
-    (stopped : Bool) (n m : NodeState) → IsVisit id count rising shard (Give parts) → count ≤ rising
-    → shard < count → stopped ≡ false → IsSame n m
-    → let v = visit_of id count time rising shard (Give parts) kept stopped in
-    HasEntered v n (visit_of id count time rising shard (Give parts) kept true) m
-    × (0 < entries_left v)
-enters_refused id count time rising shard parts kept stopped n m valid over lt well same =
-    let v = visit_of id count time rising shard (Give parts) kept stopped in
-    let e = at_shard shard (giving (part_at parts shard)) in
-    let later = give_from count (part_at parts) (shard + 1) in
-    let plan = given_plan count time rising shard parts over lt (valid.place.1 lt) in (
-      (
-        e,
-        refused,
-        record {
-          ready = well;
-          rest = later;
-          next = plan;
-          says = (valid.place.1 lt, same);
-          takes = refl;
-        },
-      ),
-      shorter_stopped v e later plan well,
-    )
-
 -- a node that takes its part in
 pub enters_given : (id count time rising shard first : ℕ) (parts : Parts) (kept : Option ℕ)
     (stopped : Bool) (n m : NodeState) → IsVisit id count rising shard (Give parts) → count ≤ rising
@@ -213,35 +167,6 @@ read_is id count time rising shard reading kept stopped is over same =
       after = reading.after;
       stopped = same i;
     }
-
-pub enters_read : (id count time rising shard : ℕ) (v w : VisitState) (kept : Option ℕ)
-    (stopped : Bool) (n m : NodeState) → IsReader id count v → count ≤ rising → stopped ≡ false
-    → HasReadOne v n w m
-    → let x = visit_of id count time rising shard (Read v) kept stopped in
-    let y = visit_of id count time rising shard (Read w) kept stopped in
-    HasEntered x n y m × (entries_left y < entries_left x)
-enters_read id count time rising shard v w kept stopped n m is over well read =
-    let reads : IsReader id count w = record { id = read.id ∙ is.id; count = read.count ∙ is.count; going = read.going; made = read.made } in
-    let before = read_is id count time rising shard v kept stopped is over (well ∙ sym is.going) in
-    let after = read_is id count time rising shard w kept stopped reads over (well ∙ sym read.going) in
-    subst (λ (x : VisitState). HasEntered x n (visit_of id count time rising shard (Read w) kept stopped) m × (entries_left (visit_of id count time rising shard (Read w) kept stopped) < entries_left x)) (sym before)
-    (subst (λ (y : VisitState). HasEntered v n y m × (entries_left y < entries_left v)) (sym after) (read.entered, read.shorter))
-
--- it is refused
-pub refused_read : (id count time rising shard : ℕ) (v w : VisitState) (kept : Option ℕ)
-    (stopped : Bool) (n m : NodeState) → IsReader id count v → count ≤ rising → stopped ≡ false
-    → HasEntered v n (record v { stopped = true }) m → w ≡ v
-    → let x = visit_of id count time rising shard (Read v) kept stopped in
-    HasEntered x n (visit_of id count time rising shard (Read w) kept true) m × (0 < entries_left x)
-refused_read id count time rising shard v w kept stopped n m is over well entered same =
-    let before = read_is id count time rising shard v kept stopped is over (well ∙ sym is.going) in
-    let plan = raise_end count time rising over in
-    let after : visit_of id count time rising shard (Read w) kept true ≡ record v { stopped = true } =
-    ap (λ (u : VisitState). visit_of id count time rising shard (Read u) kept true) same
-    ∙ (λ i. record { id = sym is.id i; count = sym is.count i; plan = plan i ++ v.plan; made = v.made; after = v.after; stopped = true }) in
-    let some : 0 < entries_left v = shorter_stopped v entered.0 entered.2.rest entered.2.next entered.2.ready in
-    subst (λ (x : VisitState). HasEntered x n (visit_of id count time rising shard (Read w) kept true) m × (0 < entries_left x)) (sym before)
-    (subst (λ (y : VisitState). HasEntered v n y m) (sym after) entered, some)
 
 -- ---- what a visit says of itself
 

@@ -85,11 +85,6 @@ give_skip count from first parts long is =
 
 -- ---- parts
 
-pub first_of_batch : (parts : List (List Reference)) (start first : ℕ)
-    → IsFirstSome parts start first → IsFirstPart (Batch parts) start first
-first_of_batch parts start first is =
-    record { from = is.from; below = is.below; passed = is.passed; there = is.there }
-
 no_length : (es : List Entry) → (es ≡ [] → ⊥) → length es ≡ 0 → ⊥
 no_length [] some none = some refl
 no_length (e ∷ es) some none = absurd (omega (arith, none))
